@@ -1,0 +1,4 @@
+pub mod Notes
+pub mod Records
+pub mod Tables
+pub mod Laws

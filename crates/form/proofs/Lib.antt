@@ -1,0 +1,3 @@
+pub mod First
+pub mod Overs
+pub mod Reading

@@ -1,0 +1,3 @@
+pub mod HookNames
+pub mod Among
+pub mod Appending

@@ -1,0 +1,4 @@
+pub mod Names
+pub mod Appended
+pub mod Options
+pub mod Runs

@@ -1,0 +1,34 @@
+// The records that all layers share: nodes and their kinds, spans, text places, refusals, the bounded list over lent memory, the walk.
+mod fault;
+mod kind;
+mod list;
+mod module;
+mod node;
+mod text;
+mod visit;
+
+pub use fault::Fault;
+pub use fault::FaultFromFull;
+pub use fault::Phase;
+pub use kind::Kind;
+pub use kind::Word;
+pub use list::Full;
+pub use list::List;
+pub use module::Module;
+pub use module::bytes_at;
+pub use module::next_at;
+pub use module::node_at;
+pub use module::same_ident;
+pub use module::snippet_of;
+pub use node::Node;
+pub use node::Place;
+pub use node::Span;
+pub use node::narrow;
+pub use text::Class;
+pub use text::all_name_chars;
+pub use text::class_of;
+pub use text::is_name;
+pub use text::same;
+pub use visit::Step;
+pub use visit::Visitor;
+pub use visit::walk;
