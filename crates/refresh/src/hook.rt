@@ -32,6 +32,11 @@ pub struct Hook {
     pub argument: Option<u16>,
 }
 
+impl Hook {
+    // What a table may hold before a run.
+    pub const NONE: Hook = Hook { callee: HookCall::Ident(0), left: None, argument: None };
+}
+
 // Whether a name is that of a hook: `use` followed by A to Z.
 pub fn is_hook_like(name: &[u8]) -> bool
     ensures { λ r. ⌜ r ≡ hookName (now (name .entry)) ⌝ }

@@ -13,6 +13,11 @@ pub struct Registration {
     pub name: Place,
 }
 
+impl Registration {
+    // What a table may hold before a run.
+    pub const NONE: Registration = Registration { handle: 0, name: Place::NONE };
+}
+
 // Goes through a module: plans the handles, signs the functions, writes the instrumented module.
 #[derive(Drop)]
 pub struct HookRegister<'w> {

@@ -1,0 +1,10 @@
+// One module from its files to its instrumented text: load, notes, run, print, in tables that the program lends.
+mod steps;
+
+pub use steps::Call;
+pub use steps::Done;
+pub use steps::Stop;
+pub use steps::instrument;
+pub use steps::print_module;
+pub use steps::run_module;
+pub use steps::take_notes;
