@@ -1,4 +1,2 @@
-pub mod Tokens
-pub mod Numbers
-pub mod Written
+pub mod Printing
 pub mod Sizes

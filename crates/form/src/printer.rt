@@ -2,12 +2,12 @@
 ghost use mathlib.Core.Path.{_≡_};
 ghost use Prim.Native.Nat.{_<_, _≤_};
 ghost use lib.ListN.{length};
-ghost use Rattle.form.specs.Written.{Printed};
-use crate::number::put_number;
-use crate::put::put_byte;
-use crate::put::put_bytes;
+ghost use Rattle.form.specs.Printing.{Printed};
 use crate::words::kind_word;
 use crate::words::word_text;
+use lex::put_byte;
+use lex::put_bytes;
+use lex::put_number;
 use tables::Fault;
 use tables::Kind;
 use tables::Module;

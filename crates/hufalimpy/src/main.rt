@@ -11,7 +11,7 @@ use input::defaults;
 use input::read_settings;
 use message::tell_done;
 use message::tell_stop;
-use refresh::Hook;
+use hooks::Hook;
 use refresh::HookRegister;
 use refresh::Plan;
 use refresh::Registration;

@@ -2,7 +2,7 @@
 use crate::line::cut;
 use crate::line::find;
 use crate::line::unquote;
-use form::read_number;
+use lex::read_number;
 
 #[derive(Clone, Copy)]
 pub struct NoteLine {

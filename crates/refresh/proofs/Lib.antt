@@ -1,3 +1,1 @@
-pub mod HookNames
-pub mod Among
 pub mod Appending

@@ -1,4 +1,3 @@
-pub mod Names
 pub mod Appended
 pub mod Options
 pub mod Runs

@@ -4,15 +4,16 @@ ghost use Prim.Native.Nat.{_≤_};
 ghost use lib.ListN.{length, take};
 ghost use Rattle.refresh.specs.Appended.{Appended};
 ghost use Rattle.refresh.specs.Runs.{Leaves, Settled, Unchanged};
-use crate::hook::Hook;
-use crate::hook::is_hook_like;
+use hooks::Hook;
+use names::is_hook_like;
 use crate::options::RefreshOptions;
 use crate::options::is_refused;
 use crate::pending::list_hooks;
+use crate::output::Output;
 use crate::pass::HookRegister;
 use crate::pass::Registration;
 use crate::plan::Plan;
-use crate::reset::is_forced;
+use hooks::is_forced;
 use crate::signature::append;
 use crate::signature::append_signature;
 use crate::sizes::Sizes;
@@ -50,7 +51,8 @@ impl<'w> HookRegister<'w> {
         let open = List::over(open);
         let current_scope = List::over(scopes);
         let registrations = List::over(registrations);
-        let out = List::over(nodes);
+        let nodes = List::over(nodes);
+        let out = Output { nodes, size: 0, limit: 0 };
         HookRegister {
             plans,
             used,
@@ -61,8 +63,6 @@ impl<'w> HookRegister<'w> {
             current_scope,
             registrations,
             out,
-            size: 0,
-            limit: 0,
             sign: Place::NONE,
             register: Place::NONE,
             sign_is_hook: false,
@@ -74,7 +74,7 @@ impl<'w> HookRegister<'w> {
 
     // Whether each work table has `n` entries.
     fn has_room(&self, n: usize) -> bool {
-        self.out.room() == n
+        self.out.nodes.room() == n
             && self.plans.room() == n
             && self.hooks.room() == n
             && self.registrations.room() == n
@@ -92,9 +92,9 @@ impl<'w> HookRegister<'w> {
         self.blocks.clear();
         self.current_scope.clear();
         self.registrations.clear();
-        self.out.clear();
-        self.size = 0;
-        self.limit = limit;
+        self.out.nodes.clear();
+        self.out.size = 0;
+        self.out.limit = limit;
         self.signatures = 0;
         self.components = 0;
     }
@@ -184,7 +184,7 @@ impl<'w> HookRegister<'w> {
         }
         self.should_reset = is_forced(comments, &nodes[0..count], stack)?;
         let end = self.transform(&nodes[0..count], source, options, stack, text, used)?;
-        let made = self.out.as_slice();
+        let made = self.out.nodes.as_slice();
         if made.len() > nodes.len() {
             return Err(Fault::TooLarge);
         }

@@ -1,9 +1,9 @@
 // The tables that a run works in, and what it knows.
-use crate::hook::Hook;
+use hooks::Hook;
+use crate::output::Output;
 use crate::pending::plan_at;
 use crate::plan::Plan;
 use tables::List;
-use tables::Node;
 use tables::Place;
 
 // A component's handle and the name that it is registered under.
@@ -34,10 +34,7 @@ pub struct HookRegister<'w> {
     // the scopes that are known: the module's top scope and those of the blocks around
     pub(crate) current_scope: List<'w, u16>,
     pub(crate) registrations: List<'w, Registration>,
-    pub(crate) out: List<'w, Node>,
-    // the text size of what was written, and what it may be
-    pub(crate) size: usize,
-    pub(crate) limit: usize,
+    pub(crate) out: Output<'w>,
     // the names of the functions that make a signature handle and register a component
     pub(crate) sign: Place,
     pub(crate) register: Place,

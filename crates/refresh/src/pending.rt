@@ -1,9 +1,9 @@
 // The functions whose handles a block declares.
-use crate::hook::Hook;
-use crate::hook::HookCall;
-use crate::hook::collect_hooks;
+use hooks::Hook;
+use hooks::HookCall;
+use hooks::collect_hooks;
 use crate::plan::Plan;
-use crate::util::last_part;
+use hooks::last_part;
 use tables::Fault;
 use tables::FaultFromFull;
 use tables::Kind;

@@ -1,11 +1,11 @@
 // The plan of a run: which functions collect hooks, which items are components, and the number that each handle gets, from the inside out and
 // item by item.
-use crate::hook::collect_hooks;
-use crate::jsx::collect_ident_in_jsx;
+use hooks::collect_hooks;
+use hooks::collect_ident_in_jsx;
 use crate::pass::HookRegister;
-use crate::persist::Persist;
-use crate::persist::persistent;
-use crate::util::last_part;
+use hooks::Persist;
+use hooks::persistent;
+use hooks::last_part;
 use tables::Fault;
 use tables::FaultFromFull;
 use tables::Kind;

@@ -1,23 +1,21 @@
 // Writes the instrumented module: blocks, statements and expressions with their handles and signature calls.
-use crate::hook::Hook;
-use crate::hook::HookCall;
+use hooks::Hook;
+use hooks::HookCall;
 use crate::pending::list_hooks;
 use crate::pending::list_pending;
 use crate::pass::HookRegister;
 use crate::pass::Registration;
-use crate::util::is_builtin_hook;
-use crate::util::last_part;
+use names::is_builtin_hook;
+use hooks::last_part;
 use tables::Fault;
 use tables::FaultFromFull;
 use tables::Kind;
 use tables::List;
 use tables::Module;
-use tables::Node;
 use tables::Place;
 use tables::Span;
 use tables::Word;
 use tables::bytes_at;
-use tables::narrow;
 use tables::same;
 
 // More calls than a module of 65 levels takes, each level at most five.
@@ -31,108 +29,22 @@ fn is_statement(kind: Kind) -> bool {
 }
 
 impl<'w> HookRegister<'w> {
-    // Writes a node, and says where it stands.
-    fn put(&mut self, node: Node) -> Result<usize, Fault> {
-        let size = self.size.saturating_add(node.text.len as usize);
-        if size > self.limit {
-            return Err(Fault::TooLarge);
-        }
-        self.size = size;
-        let at = self.out.len();
-        self.out.push(node)?;
-        Ok(at)
-    }
-
-    // Notes how many nodes a form has, now that it has been written.
-    fn finish(&mut self, at: usize) {
-        let len = self.out.len();
-        if let Some(mut node) = self.out.get(at) {
-            node.size = narrow(len.saturating_sub(at));
-            self.out.put(at, node);
-        }
-    }
-
-    fn make(&mut self, kind: Kind) -> Result<usize, Fault> {
-        self.put(Node::made(kind))
-    }
-
-    fn make_handle(&mut self, letter: Word, number: u16) -> Result<(), Fault> {
-        let mut node = Node::made(Kind::Hand);
-        node.word = letter;
-        node.number = number;
-        self.put(node)?;
-        Ok(())
-    }
-
-    // An `id` in scope 0, or a `str`.
-    fn make_text(&mut self, kind: Kind, text: Place) -> Result<(), Fault> {
-        let mut node = Node::made(kind);
-        node.text = text;
-        self.put(node)?;
-        Ok(())
-    }
-
-    fn make_var(&mut self) -> Result<usize, Fault> {
-        let mut node = Node::made(Kind::Var);
-        node.word = Word::Var;
-        self.put(node)
-    }
-
-    fn make_bool(&mut self, value: bool) -> Result<(), Fault> {
-        let mut node = Node::made(Kind::Bool);
-        node.word = if value { Word::True } else { Word::False };
-        self.put(node)?;
-        Ok(())
-    }
-
-    fn make_spanned(&mut self, kind: Kind, span: Span) -> Result<usize, Fault> {
-        let mut node = Node::made(kind);
-        node.span = span;
-        self.put(node)
-    }
-
-    // A copy of an identifier or a property.
-    fn copy(&mut self, m: &Module, at: usize) -> Result<(), Fault> {
-        self.put(m.node(at))?;
-        Ok(())
-    }
-
-    // `_s();`
-    fn make_call_stmt(&mut self, handle: u16) -> Result<(), Fault> {
-        let statement = self.make(Kind::Expr)?;
-        let call = self.make(Kind::Call)?;
-        self.make_handle(Word::S, handle)?;
-        self.finish(call);
-        self.finish(statement);
-        Ok(())
-    }
-
-    // `_s = sign()` as a declarator.
-    fn make_declarator(&mut self, handle: u16) -> Result<(), Fault> {
-        let decl = self.make(Kind::Decl)?;
-        self.make_handle(Word::S, handle)?;
-        let call = self.make(Kind::Call)?;
-        self.make_text(Kind::Id, self.sign)?;
-        self.finish(call);
-        self.finish(decl);
-        Ok(())
-    }
-
     // Declares the handles of the functions from `from` to before `end` that stand in no block there.
     fn gen_hook_handle(&mut self, m: &Module, from: usize, end: usize) -> Result<(), Fault> {
         list_pending(m.nodes, from, end, &self.plans, &mut self.functions, &mut self.open)?;
         if self.functions.len() == 0 {
             return Ok(());
         }
-        let var = self.make_var()?;
+        let sign = self.sign;
+        let var = self.out.make_var()?;
         for i in 0..self.functions.len() {
             if let Some(function) = self.functions.get(i) {
                 if let Some(handle) = self.plan(function as usize).handle {
-                    self.make_declarator(handle)?;
+                    self.out.make_declarator(handle, sign)?;
                 }
             }
         }
-        self.finish(var);
+        self.out.finish(var);
         Ok(())
     }
 
@@ -143,9 +55,9 @@ impl<'w> HookRegister<'w> {
         }
         let node = m.node(at);
         let end = m.next(at);
-        let block = self.put(node)?;
+        let block = self.out.put(node)?;
         if let Some(handle) = opening {
-            self.make_call_stmt(handle)?;
+            self.out.make_call_stmt(handle)?;
         }
         self.gen_hook_handle(m, at.saturating_add(1), end)?;
         self.current_scope.push(node.scope)?;
@@ -156,7 +68,7 @@ impl<'w> HookRegister<'w> {
             p = m.next(p);
         }
         self.current_scope.pop();
-        self.finish(block);
+        self.out.finish(block);
         Ok(())
     }
 
@@ -179,11 +91,11 @@ impl<'w> HookRegister<'w> {
         let plan = self.plan(at);
         match (m.node(at).kind, plan.handle, plan.initialiser) {
             (Kind::Fn | Kind::Arrow, Some(handle), false) => {
-                let call = self.make(Kind::Call)?;
-                self.make_handle(Word::S, handle)?;
+                let call = self.out.make(Kind::Call)?;
+                self.out.make_handle(Word::S, handle)?;
                 self.function(m, at, left - 1)?;
                 self.wrap_with_register(m, at)?;
-                self.finish(call);
+                self.out.finish(call);
                 Ok(())
             }
             (Kind::Fn | Kind::Arrow, _, _) => self.function(m, at, left - 1),
@@ -197,7 +109,7 @@ impl<'w> HookRegister<'w> {
             return Err(Fault::TooLarge);
         }
         let end = m.next(at);
-        let node = self.put(m.node(at))?;
+        let node = self.out.put(m.node(at))?;
         let mut p = at.saturating_add(1);
         while p < end {
             if is_statement(m.node(p).kind) {
@@ -207,7 +119,7 @@ impl<'w> HookRegister<'w> {
             }
             p = m.next(p);
         }
-        self.finish(node);
+        self.out.finish(node);
         Ok(())
     }
 
@@ -216,7 +128,7 @@ impl<'w> HookRegister<'w> {
         if left == 0 {
             return Err(Fault::TooLarge);
         }
-        let node = self.put(m.node(at))?;
+        let node = self.out.put(m.node(at))?;
         let body = last_part(m, at);
         let mut p = at.saturating_add(1);
         while p < body {
@@ -224,7 +136,7 @@ impl<'w> HookRegister<'w> {
             p = m.next(p);
         }
         self.body(m, body, left - 1, self.plan(at).handle)?;
-        self.finish(node);
+        self.out.finish(node);
         Ok(())
     }
 
@@ -247,12 +159,12 @@ impl<'w> HookRegister<'w> {
             (_, None) => self.expression(m, at, left - 1),
             (_, Some(handle)) => {
                 let span = self.standing_span(m, at);
-                let block = self.make_spanned(Kind::Block, span)?;
-                self.make_call_stmt(handle)?;
-                let result = self.make_spanned(Kind::Return, span)?;
+                let block = self.out.make_spanned(Kind::Block, span)?;
+                self.out.make_call_stmt(handle)?;
+                let result = self.out.make_spanned(Kind::Return, span)?;
                 self.expression(m, at, left - 1)?;
-                self.finish(result);
-                self.finish(block);
+                self.out.finish(result);
+                self.out.finish(block);
                 Ok(())
             }
         }
@@ -290,20 +202,20 @@ impl<'w> HookRegister<'w> {
         let Some(handle) = self.plan(function).handle else {
             return Ok(());
         };
-        let statement = self.make(Kind::Expr)?;
-        let call = self.make(Kind::Call)?;
-        self.make_handle(Word::S, handle)?;
-        self.copy(m, ident)?;
+        let statement = self.out.make(Kind::Expr)?;
+        let call = self.out.make(Kind::Call)?;
+        self.out.make_handle(Word::S, handle)?;
+        self.out.copy(m, ident)?;
         self.wrap_with_register(m, function)?;
-        self.finish(call);
-        self.finish(statement);
+        self.out.finish(call);
+        self.out.finish(statement);
         Ok(())
     }
 
     // What a signature call has after the function: the signature, whether to reset, and a function that returns the custom hooks in scope.
     fn wrap_with_register(&mut self, m: &Module, function: usize) -> Result<(), Fault> {
         let signature = self.plan(function).signature;
-        self.make_text(Kind::Str, signature)?;
+        self.out.make_text(Kind::Str, signature)?;
         list_hooks(m, function, self.sign_is_hook, &self.plans, &mut self.functions, &mut self.hooks, &mut self.open)?;
         let mut should_reset = self.should_reset;
         let mut listed = false;
@@ -315,7 +227,7 @@ impl<'w> HookRegister<'w> {
             }
         }
         if should_reset || listed {
-            self.make_bool(should_reset)?;
+            self.out.make_bool(should_reset)?;
         }
         if listed {
             self.make_custom_hooks(m)?;
@@ -349,37 +261,21 @@ impl<'w> HookRegister<'w> {
 
     // A function that returns the custom hooks in scope.
     fn make_custom_hooks(&mut self, m: &Module) -> Result<(), Fault> {
-        let function = self.make(Kind::Fn)?;
-        let block = self.make(Kind::Block)?;
-        let result = self.make(Kind::Return)?;
-        let array = self.make(Kind::Array)?;
+        let function = self.out.make(Kind::Fn)?;
+        let block = self.out.make(Kind::Block)?;
+        let result = self.out.make(Kind::Return)?;
+        let array = self.out.make(Kind::Array)?;
+        let sign = self.sign;
         for i in 0..self.hooks.len() {
-            if let Some(true) = self.custom_hook(m, i) {
-                self.make_callee(m, i)?;
+            if let (Some(true), Some(hook)) = (self.custom_hook(m, i), self.hooks.get(i)) {
+                self.out.make_callee(m, hook, sign)?;
             }
         }
-        self.finish(array);
-        self.finish(result);
-        self.finish(block);
-        self.finish(function);
+        self.out.finish(array);
+        self.out.finish(result);
+        self.out.finish(block);
+        self.out.finish(function);
         Ok(())
-    }
-
-    fn make_callee(&mut self, m: &Module, i: usize) -> Result<(), Fault> {
-        let Some(hook) = self.hooks.get(i) else {
-            return Ok(());
-        };
-        match hook.callee {
-            HookCall::Ident(ident) => self.copy(m, ident as usize),
-            HookCall::Member(object, prop) => {
-                let member = self.make(Kind::Member)?;
-                self.copy(m, object as usize)?;
-                self.copy(m, prop as usize)?;
-                self.finish(member);
-                Ok(())
-            }
-            HookCall::Handle(_) => self.make_text(Kind::Id, self.sign),
-        }
     }
 
     // An item, with its signature statements and, for a component, its assignment.
@@ -387,41 +283,10 @@ impl<'w> HookRegister<'w> {
         self.statement(m, at, NESTING)?;
         self.sign_after(m, at)?;
         if let Some(component) = self.plan(at).component {
-            let ident = m.node(component.ident as usize);
-            self.registrations.push(Registration { handle: component.handle, name: ident.text })?;
-            let statement = self.make(Kind::Expr)?;
-            let assign = self.make_spanned(Kind::Assign, ident.span)?;
-            self.make_handle(Word::C, component.handle)?;
-            self.copy(m, component.ident as usize)?;
-            self.finish(assign);
-            self.finish(statement);
+            let name = m.node(component.ident as usize).text;
+            self.registrations.push(Registration { handle: component.handle, name })?;
+            self.out.make_assign_stmt(m, component.handle, component.ident as usize)?;
         }
-        Ok(())
-    }
-
-    // `var _c, ...`
-    fn declare_components(&mut self) -> Result<(), Fault> {
-        let var = self.make_var()?;
-        for i in 0..self.registrations.len() {
-            if let Some(registration) = self.registrations.get(i) {
-                let decl = self.make(Kind::Decl)?;
-                self.make_handle(Word::C, registration.handle)?;
-                self.finish(decl);
-            }
-        }
-        self.finish(var);
-        Ok(())
-    }
-
-    // `register(_c, "Name");`
-    fn register_component(&mut self, registration: Registration) -> Result<(), Fault> {
-        let statement = self.make(Kind::Expr)?;
-        let call = self.make(Kind::Call)?;
-        self.make_text(Kind::Id, self.register)?;
-        self.make_handle(Word::C, registration.handle)?;
-        self.make_text(Kind::Str, registration.name)?;
-        self.finish(call);
-        self.finish(statement);
         Ok(())
     }
 
@@ -429,10 +294,11 @@ impl<'w> HookRegister<'w> {
         if self.registrations.len() == 0 {
             return Ok(());
         }
-        self.declare_components()?;
+        let register = self.register;
+        self.out.declare_components(&self.registrations)?;
         for i in 0..self.registrations.len() {
             if let Some(registration) = self.registrations.get(i) {
-                self.register_component(registration)?;
+                self.out.register_component(registration, register)?;
             }
         }
         Ok(())
@@ -452,11 +318,11 @@ impl<'w> HookRegister<'w> {
     pub(crate) fn module(&mut self, m: &Module) -> Result<(), Fault> {
         let end = m.nodes.len();
         self.current_scope.push(1)?;
-        let module = self.put(m.node(0))?;
+        let module = self.out.put(m.node(0))?;
         self.gen_hook_handle(m, 1, end)?;
         self.items(m, end)?;
         self.register_components()?;
-        self.finish(module);
+        self.out.finish(module);
         Ok(())
     }
 }

@@ -1,8 +1,8 @@
 // Signature texts, appended to the text table behind the names of the loaded module.
 ghost use Prim.Native.Nat.{_≤_};
 ghost use Rattle.refresh.specs.Appended.{Appended};
-use crate::hook::Hook;
-use crate::hook::HookCall;
+use hooks::Hook;
+use hooks::HookCall;
 use tables::Fault;
 use tables::List;
 use tables::Node;

@@ -1,7 +1,7 @@
 // The cases of a table: lines from `case NAME` to `end`.
 ghost use Prim.Native.Nat.{_<_, _≤_};
 ghost use lib.ListN.{length};
-use form::read_number;
+use lex::read_number;
 use input::Settings;
 use input::cut;
 use input::defaults;

@@ -8,7 +8,7 @@ use answer::source_of;
 use case::Case;
 use case::next_case;
 use input::cut;
-use refresh::Hook;
+use hooks::Hook;
 use refresh::HookRegister;
 use refresh::Plan;
 use refresh::Registration;

@@ -1,0 +1,2 @@
+pub mod HookNames
+pub mod Among

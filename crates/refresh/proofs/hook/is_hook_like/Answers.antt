@@ -1,9 +1,0 @@
-use borrow.Author.Needs.{needs}
-use Rattle.refresh.proofs.HookNames.{decided}
-use Rattle.refresh.proofs.hook.is_hook_like.Needs as need
-
-pub returns-in-117 : need.returns-in-117
-returns-in-117 c = search (needs, decided)
-
-pub returns-in-rest·2 : need.returns-in-rest·2
-returns-in-rest·2 c = search (needs, decided)
