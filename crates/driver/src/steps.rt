@@ -40,18 +40,35 @@ pub struct Done {
 }
 
 // Notes what a line says.
-fn take_note<C: Comments>(comments: &mut C, source: &[u8], line: &[u8], scratch: &mut [u8], number: usize) -> Result<usize, Stop> {
+fn take_note<C: Comments>(
+    comments: &mut C,
+    source: &[u8],
+    line: &[u8],
+    scratch: &mut [u8],
+    number: usize,
+) -> Result<usize, Stop> {
     let Some(read) = note_line(line, scratch) else {
         return Err(Stop::NoteLine(number));
     };
-    match note(comments, source, read.side, read.position, cut(scratch, 0, read.len)) {
+    match note(
+        comments,
+        source,
+        read.side,
+        read.position,
+        cut(scratch, 0, read.len),
+    ) {
         Ok(held) => Ok(held),
         Err(fault) => Err(Stop::Refused(Call::Note, fault)),
     }
 }
 
 // Notes the lines of a file, and answers the notes held. `scratch` has room for the longest text.
-pub fn take_notes<C: Comments>(comments: &mut C, source: &[u8], notes: &[u8], scratch: &mut [u8]) -> Result<usize, Stop> {
+pub fn take_notes<C: Comments>(
+    comments: &mut C,
+    source: &[u8],
+    notes: &[u8],
+    scratch: &mut [u8],
+) -> Result<usize, Stop> {
     let mut held = 0;
     let mut at = 0;
     let mut number: usize = 0;
@@ -66,15 +83,29 @@ pub fn take_notes<C: Comments>(comments: &mut C, source: &[u8], notes: &[u8], sc
 
 fn options<'a>(settings: &Settings<'a>) -> Option<RefreshOptions<'a>> {
     if settings.given {
-        Some(RefreshOptions { refresh_reg: settings.reg, refresh_sig: settings.sig, emit_full_signatures: settings.full })
+        Some(RefreshOptions {
+            refresh_reg: settings.reg,
+            refresh_sig: settings.sig,
+            emit_full_signatures: settings.full,
+        })
     } else {
         None
     }
 }
 
 // Prints the module of some sizes in its tables.
-pub fn print_module(nodes: &[Node], text: &[u8], source: &[u8], sizes: Sizes, out: &mut [u8]) -> Result<usize, Fault> {
-    let m = Module { nodes: cut_nodes(nodes, sizes.nodes), text, source };
+pub fn print_module(
+    nodes: &[Node],
+    text: &[u8],
+    source: &[u8],
+    sizes: Sizes,
+    out: &mut [u8],
+) -> Result<usize, Fault> {
+    let m = Module {
+        nodes: cut_nodes(nodes, sizes.nodes),
+        text,
+        source,
+    };
     print(&m, out)
 }
 
@@ -93,7 +124,16 @@ pub fn run_module<C: Comments>(
     settings: &Settings,
     comments: &C,
 ) -> Result<Sizes, Fault> {
-    pass.run(nodes, text, loaded, source, stack, settings.dev, options(settings), comments)
+    pass.run(
+        nodes,
+        text,
+        loaded,
+        source,
+        stack,
+        settings.dev,
+        options(settings),
+        comments,
+    )
 }
 
 fn refused<T>(call: Call, r: Result<T, Fault>) -> Result<T, Stop> {
@@ -119,8 +159,19 @@ pub fn instrument<C: Comments>(
 ) -> Result<Done, Stop> {
     let loaded = refused(Call::Load, load(form, source, nodes, text))?;
     let held = take_notes(comments, source, notes, scratch)?;
-    let before = Sizes { nodes: loaded.nodes, text: loaded.text };
-    let after = refused(Call::Run, run_module(pass, nodes, text, before, source, stack, settings, comments))?;
+    let before = Sizes {
+        nodes: loaded.nodes,
+        text: loaded.text,
+    };
+    let after = refused(
+        Call::Run,
+        run_module(pass, nodes, text, before, source, stack, settings, comments),
+    )?;
     let printed = refused(Call::Print, print_module(nodes, text, source, after, out))?;
-    Ok(Done { loaded: loaded.nodes, notes: held, added: after.nodes.saturating_sub(loaded.nodes), printed })
+    Ok(Done {
+        loaded: loaded.nodes,
+        notes: held,
+        added: after.nodes.saturating_sub(loaded.nodes),
+        printed,
+    })
 }

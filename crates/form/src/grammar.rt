@@ -78,7 +78,17 @@ fn is_item(kind: Kind) -> bool {
 
 fn is_expression(kind: Kind) -> bool {
     match kind {
-        Kind::Id | Kind::Lit | Kind::Call | Kind::Member | Kind::Array | Kind::Op | Kind::Assign | Kind::Arrow | Kind::Fn | Kind::Tagged | Kind::Jsx => true,
+        Kind::Id
+        | Kind::Lit
+        | Kind::Call
+        | Kind::Member
+        | Kind::Array
+        | Kind::Op
+        | Kind::Assign
+        | Kind::Arrow
+        | Kind::Fn
+        | Kind::Tagged
+        | Kind::Jsx => true,
         _ => false,
     }
 }
@@ -148,7 +158,13 @@ pub(crate) fn after(rest: Rest, kind: Kind) -> Option<Rest> {
     match rest {
         Rest::Done => None,
         Rest::Item => when(is_item(kind), Rest::Item),
-        Rest::Idents | Rest::Exported | Rest::NameOrNone | Rest::Name | Rest::FirstDecl | Rest::Decls | Rest::Property => only(kind, rest),
+        Rest::Idents
+        | Rest::Exported
+        | Rest::NameOrNone
+        | Rest::Name
+        | Rest::FirstDecl
+        | Rest::Decls
+        | Rest::Property => only(kind, rest),
         Rest::Params => params_part(kind),
         Rest::Expr | Rest::MaybeExpr => when(is_expression(kind), Rest::Done),
         Rest::Test => when(is_expression(kind), Rest::Then),
@@ -194,7 +210,14 @@ pub(crate) fn inside(around: Rest, kind: Kind) -> Rest {
         Kind::Pat => Rest::Patterns,
         Kind::Dflt => Rest::Defaulted,
         Kind::Decl => Rest::Declared,
-        Kind::Module | Kind::Id | Kind::Lit | Kind::Prop | Kind::Kwimport | Kind::Hand | Kind::Str | Kind::Bool => Rest::Done,
+        Kind::Module
+        | Kind::Id
+        | Kind::Lit
+        | Kind::Prop
+        | Kind::Kwimport
+        | Kind::Hand
+        | Kind::Str
+        | Kind::Bool => Rest::Done,
     }
 }
 
@@ -209,7 +232,17 @@ fn member_object(around: Rest) -> Rest {
 // Whether a form may end here.
 pub(crate) fn closes(rest: Rest) -> bool {
     match rest {
-        Rest::Done | Rest::Idents | Rest::MaybeExpr | Rest::Decls | Rest::Else | Rest::Statements | Rest::Exprs | Rest::Second | Rest::ArrowOrBody | Rest::Attrs | Rest::Patterns => true,
+        Rest::Done
+        | Rest::Idents
+        | Rest::MaybeExpr
+        | Rest::Decls
+        | Rest::Else
+        | Rest::Statements
+        | Rest::Exprs
+        | Rest::Second
+        | Rest::ArrowOrBody
+        | Rest::Attrs
+        | Rest::Patterns => true,
         _ => false,
     }
 }

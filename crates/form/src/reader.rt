@@ -127,7 +127,10 @@ impl<'t, 'n, 'x> Loader<'t, 'n, 'x> {
         let at = narrow(self.bytes);
         keep(&mut self.names, run);
         self.bytes = self.bytes.saturating_add(run.len());
-        Ok(Place { at, len: narrow(run.len()) })
+        Ok(Place {
+            at,
+            len: narrow(run.len()),
+        })
     }
 
     fn variables(&mut self) -> Result<Word, Fault>
@@ -304,7 +307,12 @@ pub fn fits(nodes: usize, text: usize, source: usize) -> bool
 }
 
 // Loads the module whose text form is `form`, over `source`.
-pub fn load(form: &[u8], source: &[u8], nodes: &mut [Node], text: &mut [u8]) -> Result<Loaded, Fault>
+pub fn load(
+    form: &[u8],
+    source: &[u8],
+    nodes: &mut [Node],
+    text: &mut [u8],
+) -> Result<Loaded, Fault>
     ensures { λ r. ⌜ made r (λ l. (l .nodes ≤ length (now (nodes .entry))) × (l .text ≤ length (now (text .entry)))) ⌝ }
 {
     let room = nodes.len();
@@ -316,11 +324,21 @@ pub fn load(form: &[u8], source: &[u8], nodes: &mut [Node], text: &mut [u8]) -> 
     let limit = source.len() as u32 + 1;
     let nodes = List::over(nodes);
     let names = List::over(text);
-    let mut loader = Loader { reader, limit, nodes, names, count: 0, bytes: 0 };
+    let mut loader = Loader {
+        reader,
+        limit,
+        nodes,
+        names,
+        count: 0,
+        bytes: 0,
+    };
     loader.module()?;
     loader.items()?;
     if loader.count > room || loader.bytes > space {
         return Err(Fault::TooLarge);
     }
-    Ok(Loaded { nodes: loader.count, text: loader.bytes })
+    Ok(Loaded {
+        nodes: loader.count,
+        text: loader.bytes,
+    })
 }

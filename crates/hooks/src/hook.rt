@@ -32,7 +32,11 @@ pub struct Hook {
 
 impl Hook {
     // What a table may hold before a run.
-    pub const NONE: Hook = Hook { callee: HookCall::Ident(0), left: None, argument: None };
+    pub const NONE: Hook = Hook {
+        callee: HookCall::Ident(0),
+        left: None,
+        argument: None,
+    };
 }
 
 fn present(at: usize, end: usize) -> Option<u16> {
@@ -51,14 +55,24 @@ fn key_argument(m: &Module, name: &[u8], first: usize, end: usize) -> Option<u16
 }
 
 // A hook by its callee's node and the name that decides.
-fn named_hook(m: &Module, call: usize, callee: HookCall, name: usize, left: Option<u16>) -> Option<Hook> {
+fn named_hook(
+    m: &Module,
+    call: usize,
+    callee: HookCall,
+    name: usize,
+    left: Option<u16>,
+) -> Option<Hook> {
     let text = m.name(name);
     if !is_hook_like(text) {
         return None;
     }
     let first = m.next(call.saturating_add(1));
     let argument = key_argument(m, text, first, m.next(call));
-    Some(Hook { callee, left, argument })
+    Some(Hook {
+        callee,
+        left,
+        argument,
+    })
 }
 
 // The hook that a call is, if it is one.
@@ -72,7 +86,13 @@ pub fn get_hook_from_expr(m: &Module, call: usize, left: Option<u16>) -> Option<
         Kind::Member => {
             let object = callee.saturating_add(1);
             let prop = m.next(object);
-            named_hook(m, call, HookCall::Member(narrow(object), narrow(prop)), prop, left)
+            named_hook(
+                m,
+                call,
+                HookCall::Member(narrow(object), narrow(prop)),
+                prop,
+                left,
+            )
         }
         _ => None,
     }
@@ -120,13 +140,23 @@ impl Visitor for HookCollector<'_, '_, '_, '_, '_> as HookCollectorVisitor {
     }
 }
 
-fn search(m: &Module, at: usize, hooks: &mut List<Hook>, open: &mut List<u16>) -> Result<(), Fault> {
+fn search(
+    m: &Module,
+    at: usize,
+    hooks: &mut List<Hook>,
+    open: &mut List<u16>,
+) -> Result<(), Fault> {
     let mut collector = HookCollector { module: *m, hooks };
     walk(m.nodes, at, m.next(at), open, &mut collector)
 }
 
 // An `expr` or `return` that is a hook call gives it; any other is searched.
-fn simple(m: &Module, at: usize, hooks: &mut List<Hook>, open: &mut List<u16>) -> Result<(), Fault> {
+fn simple(
+    m: &Module,
+    at: usize,
+    hooks: &mut List<Hook>,
+    open: &mut List<u16>,
+) -> Result<(), Fault> {
     let expr = at.saturating_add(1);
     if expr >= m.next(at) {
         return Ok(());
@@ -144,7 +174,11 @@ fn simple(m: &Module, at: usize, hooks: &mut List<Hook>, open: &mut List<u16>) -
 fn declared_hook(m: &Module, decl: usize) -> Option<Hook> {
     let pattern = decl.saturating_add(1);
     let init = m.next(pattern);
-    if init < m.next(decl) { get_hook_from_expr(m, init, Some(narrow(pattern))) } else { None }
+    if init < m.next(decl) {
+        get_hook_from_expr(m, init, Some(narrow(pattern)))
+    } else {
+        None
+    }
 }
 
 // Lists the hooks from `from` to before `to` once more.
@@ -158,7 +192,12 @@ fn repeat(hooks: &mut List<Hook>, from: usize, to: usize) -> Result<(), Fault> {
 }
 
 // A `var` takes its declarators in turn: each that is no hook call has the whole statement searched.
-fn declarators(m: &Module, at: usize, hooks: &mut List<Hook>, open: &mut List<u16>) -> Result<(), Fault> {
+fn declarators(
+    m: &Module,
+    at: usize,
+    hooks: &mut List<Hook>,
+    open: &mut List<u16>,
+) -> Result<(), Fault> {
     let end = m.next(at);
     let mut decl = at.saturating_add(1);
     let mut searched: Option<(usize, usize)> = None;
@@ -178,7 +217,13 @@ fn declarators(m: &Module, at: usize, hooks: &mut List<Hook>, open: &mut List<u1
 }
 
 // The statements from `from` to before `end`. Those inside an `if` follow its test.
-fn statements(m: &Module, from: usize, end: usize, hooks: &mut List<Hook>, open: &mut List<u16>) -> Result<(), Fault> {
+fn statements(
+    m: &Module,
+    from: usize,
+    end: usize,
+    hooks: &mut List<Hook>,
+    open: &mut List<u16>,
+) -> Result<(), Fault> {
     let mut at = from;
     while at < end {
         match m.node(at).kind {
@@ -196,7 +241,12 @@ fn statements(m: &Module, from: usize, end: usize, hooks: &mut List<Hook>, open:
 }
 
 // Adds the hooks of a function's body to a list.
-pub fn collect_hooks(m: &Module, function: usize, hooks: &mut List<Hook>, open: &mut List<u16>) -> Result<(), Fault> {
+pub fn collect_hooks(
+    m: &Module,
+    function: usize,
+    hooks: &mut List<Hook>,
+    open: &mut List<u16>,
+) -> Result<(), Fault> {
     let body = last_part(m, function);
     match m.node(body).kind {
         Kind::Block => statements(m, body.saturating_add(1), m.next(body), hooks, open),

@@ -20,7 +20,10 @@ struct UsedInJsx<'n, 't, 's, 'i, 'l> {
 }
 
 fn makes_element(name: &[u8]) -> bool {
-    same(name, b"createElement") || same(name, b"jsx") || same(name, b"jsxDEV") || same(name, b"jsxs")
+    same(name, b"createElement")
+        || same(name, b"jsx")
+        || same(name, b"jsxDEV")
+        || same(name, b"jsxs")
 }
 
 // Whether a call makes an element, by the `id` or `prop` that it calls.
@@ -64,7 +67,11 @@ impl Visitor for UsedInJsx<'_, '_, '_, '_, '_> as UsedInJsxVisitor {
     }
 }
 
-pub fn collect_ident_in_jsx(m: &Module, idents: &mut List<u16>, open: &mut List<u16>) -> Result<(), Fault> {
+pub fn collect_ident_in_jsx(
+    m: &Module,
+    idents: &mut List<u16>,
+    open: &mut List<u16>,
+) -> Result<(), Fault> {
     let mut visitor = UsedInJsx { module: *m, idents };
     walk(m.nodes, 0, m.nodes.len(), open, &mut visitor)
 }

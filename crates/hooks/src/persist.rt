@@ -1,8 +1,8 @@
 // Which items are components.
 use crate::jsx::is_used;
-use names::begins_upper;
 use crate::util::is_body_arrow_fn;
 use crate::util::is_import_or_require;
+use names::begins_upper;
 use tables::Kind;
 use tables::List;
 use tables::Module;
@@ -17,7 +17,11 @@ pub enum Persist {
 }
 
 fn get_persistent_id(m: &Module, ident: usize) -> Persist {
-    if begins_upper(m.name(ident)) { Persist::Component(narrow(ident)) } else { Persist::None }
+    if begins_upper(m.name(ident)) {
+        Persist::Component(narrow(ident))
+    } else {
+        Persist::None
+    }
 }
 
 // A value that makes a component of a name that is used in JSX.
@@ -46,7 +50,12 @@ fn get_persistent_id_from_var_decl(m: &Module, var: usize, used: &List<u16>) -> 
     let init = m.next(ident);
     let end = m.next(decl);
     match m.node(ident).kind {
-        Kind::Id if end == m.next(var) && init < end => get_persistent_id_from_init(m, ident, init, used),
+        Kind::Id if end == m.next(var) && init < end => get_persistent_id_from_init(
+            m,
+            ident,
+            init,
+            used,
+        ),
         _ => Persist::None,
     }
 }

@@ -40,8 +40,15 @@ impl<C: Comments> Visitor for Reset<'_, C> as ResetVisitor {
 }
 
 // Whether some node has `@refresh reset` in a comment at its edge.
-pub fn is_forced<C: Comments>(comments: &C, nodes: &[Node], open: &mut List<u16>) -> Result<bool, Fault> {
-    let mut visitor = Reset { comments, forced: false };
+pub fn is_forced<C: Comments>(
+    comments: &C,
+    nodes: &[Node],
+    open: &mut List<u16>,
+) -> Result<bool, Fault> {
+    let mut visitor = Reset {
+        comments,
+        forced: false,
+    };
     walk(nodes, 0, nodes.len(), open, &mut visitor)?;
     Ok(visitor.forced)
 }

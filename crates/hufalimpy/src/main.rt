@@ -6,12 +6,12 @@ use comments::ArrivalComments;
 use driver::Done;
 use driver::Stop;
 use driver::instrument;
+use hooks::Hook;
 use input::Settings;
 use input::defaults;
 use input::read_settings;
 use message::tell_done;
 use message::tell_stop;
-use hooks::Hook;
 use refresh::HookRegister;
 use refresh::Plan;
 use refresh::Registration;
@@ -24,11 +24,20 @@ use tables::Node;
 
 // The nodes that the tables have room for, and more bytes than a module of that size prints.
 const N: usize = 8192;
+
 const TEXT: usize = 49152;
+
 const OUT: usize = 393216;
 
 // Instruments in tables that are made once and lent.
-fn process(form: &[u8], source: &[u8], notes: &[u8], settings: &Settings, scratch: &mut [u8], out: &mut [u8]) -> Result<Done, Stop> {
+fn process(
+    form: &[u8],
+    source: &[u8],
+    notes: &[u8],
+    settings: &Settings,
+    scratch: &mut [u8],
+    out: &mut [u8],
+) -> Result<Done, Stop> {
     let mut nodes = [Node::VOID; N];
     let mut text = [0u8; TEXT];
     let mut stack = [0u16; N];
@@ -42,8 +51,30 @@ fn process(form: &[u8], source: &[u8], notes: &[u8], settings: &Settings, scratc
     let mut blocks = [0u16; N];
     let mut open = [0u16; N];
     let mut store = Arrival::new();
-    let mut pass = HookRegister::over(&mut made, &mut plans, &mut hooks, &mut registrations, &mut idents, &mut functions, &mut scopes, &mut blocks, &mut open);
-    instrument(form, source, notes, settings, &mut pass, &mut nodes, &mut text, &mut stack, &mut store, scratch, out)
+    let mut pass = HookRegister::over(
+        &mut made,
+        &mut plans,
+        &mut hooks,
+        &mut registrations,
+        &mut idents,
+        &mut functions,
+        &mut scopes,
+        &mut blocks,
+        &mut open,
+    );
+    instrument(
+        form,
+        source,
+        notes,
+        settings,
+        &mut pass,
+        &mut nodes,
+        &mut text,
+        &mut stack,
+        &mut store,
+        scratch,
+        out,
+    )
 }
 
 // A file that has to be there.
@@ -60,17 +91,28 @@ fn read(rt: &LibcRuntime, path: &str) -> Result<Vec<u8>, AnyError> {
 // A file beside the form that need not be there.
 fn read_beside(rt: &LibcRuntime, form: &str, name: &str) -> Result<Vec<u8>, AnyError> {
     let path = Path::new(form).with_file_name(rt.alloc(), name)?;
-    if fs::exists(rt, path.as_str())? { read(rt, path.as_str()) } else { Ok(Vec::new(rt.alloc())) }
+    if fs::exists(rt, path.as_str())? {
+        read(rt, path.as_str())
+    } else {
+        Ok(Vec::new(rt.alloc()))
+    }
 }
 
 // The options that a file gives.
-fn settings_of<'a>(rt: &LibcRuntime, form: &str, options: &'a [u8]) -> Result<Settings<'a>, AnyError> {
+fn settings_of<'a>(
+    rt: &LibcRuntime,
+    form: &str,
+    options: &'a [u8],
+) -> Result<Settings<'a>, AnyError> {
     match read_settings(options, defaults()) {
         Ok(settings) => Ok(settings),
         Err(line) => {
             let path = Path::new(form).with_file_name(rt.alloc(), "in.options")?;
             let path = path.as_str();
-            eprintln!(rt, "{path} line {line}: expected dev, given, reg, sig or full with its value")?;
+            eprintln!(
+                rt,
+                "{path} line {line}: expected dev, given, reg, sig or full with its value"
+            )?;
             Err("bad line".into())
         }
     }
@@ -85,7 +127,14 @@ fn instrument_files(rt: &LibcRuntime, form_path: &str, source_path: &str) -> Res
     let settings = settings_of(rt, form_path, options.as_slice())?;
     let mut scratch = vec![in heap; 0u8; notes.len()]?;
     let mut out = vec![in heap; 0u8; OUT]?;
-    match process(form.as_slice(), source.as_slice(), notes.as_slice(), &settings, scratch.as_mut_slice(), out.as_mut_slice()) {
+    match process(
+        form.as_slice(),
+        source.as_slice(),
+        notes.as_slice(),
+        &settings,
+        scratch.as_mut_slice(),
+        out.as_mut_slice(),
+    ) {
         Ok(done) => {
             let n = done.printed.min(out.len());
             let bytes = out.as_slice();

@@ -33,7 +33,10 @@ pub fn tell_done(rt: &LibcRuntime, done: &Done) -> io::Result<()> {
     let notes = done.notes;
     let added = done.added;
     let printed = done.printed;
-    eprintln!(rt, "loaded {loaded} nodes, {notes} notes, added {added}, printed {printed} bytes")
+    eprintln!(
+        rt,
+        "loaded {loaded} nodes, {notes} notes, added {added}, printed {printed} bytes"
+    )
 }
 
 // Says why there is no module; `notes` is the file that a bad line of notes stands in.
@@ -46,6 +49,9 @@ pub fn tell_stop(rt: &LibcRuntime, stop: Stop, notes: &str) -> io::Result<()> {
             let meaning = meaning(number);
             eprintln!(rt, "refused: {call} {number} at {place}: {meaning}")
         }
-        Stop::NoteLine(line) => eprintln!(rt, "{notes} line {line}: expected SIDE POSITION \"TEXT\""),
+        Stop::NoteLine(line) => eprintln!(
+            rt,
+            "{notes} line {line}: expected SIDE POSITION \"TEXT\""
+        ),
     }
 }

@@ -25,7 +25,11 @@ pub fn line_end(text: &[u8], from: usize) -> usize
 
 // The part of a text from `from` to before `to`, as far as there is one.
 pub fn cut<'a>(text: &'a [u8], from: usize, to: usize) -> &'a [u8] {
-    if from <= to && to <= text.len() { &text[from..to] } else { &[] }
+    if from <= to && to <= text.len() {
+        &text[from..to]
+    } else {
+        &[]
+    }
 }
 
 // The byte that an escape stands for.

@@ -25,5 +25,9 @@ pub fn note_line(line: &[u8], out: &mut [u8]) -> Option<NoteLine> {
     let side = read_number(cut(line, 0, first), 999_999_999)?;
     let position = read_number(cut(line, from, second), 999_999_999)?;
     let len = unquote(cut(line, second.saturating_add(1), line.len()), out)?;
-    Some(NoteLine { side: small(side), position, len })
+    Some(NoteLine {
+        side: small(side),
+        position,
+        len,
+    })
 }

@@ -15,7 +15,13 @@ pub struct Settings<'a> {
 
 // What a run is told where no file says otherwise.
 pub fn defaults() -> Settings<'static> {
-    Settings { dev: true, given: true, reg: b"$RefreshReg$", sig: b"$RefreshSig$", full: true }
+    Settings {
+        dev: true,
+        given: true,
+        reg: b"$RefreshReg$",
+        sig: b"$RefreshSig$",
+        full: true,
+    }
 }
 
 fn flag(value: &[u8]) -> Option<bool> {

@@ -24,9 +24,9 @@ over-cut o t h = take-append-le (length o) t (drop (length t) o) h
 
 pub length-over : (o t : List ℕ) → length (over o t) ≡ length o
 length-over o t = ⊎-elim
-  (λ h. ap length (over-fits o t h) ∙ omega (arith, length-append t (drop (length t) o), length-drop (length t) o))
-  (λ h. ap length (over-cut o t h) ∙ length-take-le (length o) t h)
-  (cases-le (length t) (length o))
+    (λ h. ap length (over-fits o t h) ∙ omega (arith, length-append t (drop (length t) o), length-drop (length t) o))
+    (λ h. ap length (over-cut o t h) ∙ length-take-le (length o) t h)
+    (cases-le (length t) (length o))
 
 pub over-byte : (o : List ℕ) (b : ℕ) → 0 < length o → set o 0 b ≡ over o (b ∷ [])
 over-byte o b h = set-split o 0 b h ∙ sym (over-fits o (b ∷ []) h)
@@ -39,9 +39,9 @@ over-none (x ∷ xs) t h = absurd (omega arith)
 -- what fits of a text, and the rest of the buffer
 pub over-part : (o t : List ℕ) (k : ℕ) → k ≡ min (length t) (length o) → take k t ++ drop k o ≡ over o t
 over-part o t k e = ⊎-elim
-  (λ h. let s : k ≡ length t = omega arith in ap (λ m. take m t ++ drop m o) s ∙ ap (λ x. x ++ drop (length t) o) (take-all (length t) t (omega arith)) ∙ sym (over-fits o t h))
-  (λ h. let s : k ≡ length o = omega arith in ap (λ m. take m t ++ drop m o) s ∙ ap (λ x. take (length o) t ++ x) (drop-all (length o) o (omega arith)) ∙ append-nil (take (length o) t) ∙ sym (over-cut o t h))
-  (cases-le (length t) (length o))
+    (λ h. let s : k ≡ length t = omega arith in ap (λ m. take m t ++ drop m o) s ∙ ap (λ x. x ++ drop (length t) o) (take-all (length t) t (omega arith)) ∙ sym (over-fits o t h))
+    (λ h. let s : k ≡ length o = omega arith in ap (λ m. take m t ++ drop m o) s ∙ ap (λ x. take (length o) t ++ x) (drop-all (length o) o (omega arith)) ∙ append-nil (take (length o) t) ∙ sym (over-cut o t h))
+    (cases-le (length t) (length o))
 
 fitting : (o s t : List ℕ) → length s ≤ length o → over o (s ++ t) ≡ s ++ over (drop (length s) o) t
 unfolding over
@@ -54,14 +54,14 @@ fitting o s t h =
 -- a text after a text, into the rest of the buffer
 pub over-over : (o s t : List ℕ) (k : ℕ) → k ≡ min (length s) (length o) → take k (over o s) ++ over (drop k (over o s)) t ≡ over o (s ++ t)
 over-over o s t k e = ⊎-elim
-  (λ h.
+    (λ h.
     let r : List ℕ = drop (length s) o in
     let m : k ≡ length s = omega arith in
     let first : over o s ≡ s ++ r = over-fits o s h in
     let front : take k (over o s) ≡ s = ap (take k) first ∙ take-at s r k (sym m) in
     let back : drop k (over o s) ≡ r = ap (drop k) first ∙ drop-at s r k (sym m) in
     ap₂ (λ x y. x ++ over y t) front back ∙ sym (fitting o s t h))
-  (λ h.
+    (λ h.
     let m : k ≡ length o = omega arith in
     let first : over o s ≡ take (length o) s = over-cut o s h in
     let long : length (over o s) ≡ length o = length-over o s in
@@ -69,7 +69,7 @@ over-over o s t k e = ⊎-elim
     let back : drop k (over o s) ≡ [] = drop-all k (over o s) (omega arith) in
     ap₂ (λ x y. x ++ over y t) front back ∙ ap (λ x. take (length o) s ++ x) (sym (over-none [] t refl)) ∙ append-nil (take (length o) s)
     ∙ sym (over-cut o (s ++ t) (omega (arith, length-append s t)) ∙ take-append-le (length o) s t h))
-  (cases-le (length s) (length o))
+    (cases-le (length s) (length o))
 
 -- the same as the checker sees it: after s the text t was written into `&mut out[from..]`
 pub over-rest : (o o′ s t w : List ℕ) (from : ℕ) → o′ ≡ over o s → from ≡ min (length s) (length o′) → w ≡ over (take (length o′ - from) (drop from o′)) t → putMid from (length o′ - from) o′ w ≡ over o (s ++ t)

@@ -48,7 +48,11 @@ fn read_on(run: &[u8], limit: u32) -> Option<u32>
 pub fn read_number(run: &[u8], limit: u32) -> Option<u32>
     ensures { λ r. ⌜ r ≡ numberOf limit (now (run .entry)) ⌝ }
 {
-    if is_plain(run) { read_on(run, limit) } else { None }
+    if is_plain(run) {
+        read_on(run, limit)
+    } else {
+        None
+    }
 }
 
 // Writes a number over the front of a buffer, as far as it fits, and answers how many bytes it has.

@@ -58,7 +58,11 @@ fn token_of<'a>(rest: &'a [u8]) -> Option<Token<'a>>
         Class::Letter | Class::Digit | Class::Other => {
             let n = run_len(rest);
             let run = &rest[0..n];
-            if is_lawful(run) { Some(Token::Run(run)) } else { None }
+            if is_lawful(run) {
+                Some(Token::Run(run))
+            } else {
+                None
+            }
         }
     }
 }

@@ -4,20 +4,20 @@ ghost use Prim.Native.Nat.{_≤_};
 ghost use lib.ListN.{length, take};
 ghost use Rattle.refresh.specs.Appended.{Appended};
 ghost use Rattle.refresh.specs.Runs.{Leaves, Settled, Unchanged};
-use hooks::Hook;
-use names::is_hook_like;
 use crate::options::RefreshOptions;
 use crate::options::is_refused;
-use crate::pending::list_hooks;
 use crate::output::Output;
 use crate::pass::HookRegister;
 use crate::pass::Registration;
+use crate::pending::list_hooks;
 use crate::plan::Plan;
-use hooks::is_forced;
 use crate::signature::append;
 use crate::signature::append_signature;
 use crate::sizes::Sizes;
 use comments::Comments;
+use hooks::Hook;
+use hooks::is_forced;
+use names::is_hook_like;
 use tables::Fault;
 use tables::List;
 use tables::Module;
@@ -52,7 +52,11 @@ impl<'w> HookRegister<'w> {
         let current_scope = List::over(scopes);
         let registrations = List::over(registrations);
         let nodes = List::over(nodes);
-        let out = Output { nodes, size: 0, limit: 0 };
+        let out = Output {
+            nodes,
+            size: 0,
+            limit: 0,
+        };
         HookRegister {
             plans,
             used,
@@ -100,7 +104,14 @@ impl<'w> HookRegister<'w> {
     }
 
     // Appends the signature of the function at `at`, if it has a handle, and notes its place.
-    fn sign_function(&mut self, nodes: &[Node], source: &[u8], at: usize, text: &mut [u8], used: usize) -> Result<usize, Fault>
+    fn sign_function(
+        &mut self,
+        nodes: &[Node],
+        source: &[u8],
+        at: usize,
+        text: &mut [u8],
+        used: usize,
+    ) -> Result<usize, Fault>
         ensures { λ r. ⌜ Appended (now (text .entry)) used r (now (text .exit)) ⌝ }
     {
         let mut plan = self.plan(at);
@@ -109,18 +120,45 @@ impl<'w> HookRegister<'w> {
         }
         self.list_function(nodes, text, source, at)?;
         let end = append_signature(nodes, source, self.sign, &self.hooks, text, used)?;
-        plan.signature = Place { at: narrow(used), len: narrow(end.saturating_sub(used)) };
+        plan.signature = Place {
+            at: narrow(used),
+            len: narrow(end.saturating_sub(used)),
+        };
         self.plans.put(at, plan);
         Ok(end)
     }
 
-    fn list_function(&mut self, nodes: &[Node], text: &[u8], source: &[u8], at: usize) -> Result<(), Fault> {
-        let m = Module { nodes, text, source };
-        list_hooks(&m, at, self.sign_is_hook, &self.plans, &mut self.functions, &mut self.hooks, &mut self.open)
+    fn list_function(
+        &mut self,
+        nodes: &[Node],
+        text: &[u8],
+        source: &[u8],
+        at: usize,
+    ) -> Result<(), Fault> {
+        let m = Module {
+            nodes,
+            text,
+            source,
+        };
+        list_hooks(
+            &m,
+            at,
+            self.sign_is_hook,
+            &self.plans,
+            &mut self.functions,
+            &mut self.hooks,
+            &mut self.open,
+        )
     }
 
     // Appends the signatures of all functions with handles.
-    fn sign_functions(&mut self, nodes: &[Node], source: &[u8], text: &mut [u8], used: usize) -> Result<usize, Fault>
+    fn sign_functions(
+        &mut self,
+        nodes: &[Node],
+        source: &[u8],
+        text: &mut [u8],
+        used: usize,
+    ) -> Result<usize, Fault>
         ensures { λ r. ⌜ Appended (now (text .entry)) used r (now (text .exit)) ⌝ }
     {
         let mut end = used;
@@ -131,28 +169,61 @@ impl<'w> HookRegister<'w> {
     }
 
     // Appends the names that the run uses, and notes their places.
-    fn append_names(&mut self, options: &RefreshOptions, text: &mut [u8], used: usize) -> Result<usize, Fault>
+    fn append_names(
+        &mut self,
+        options: &RefreshOptions,
+        text: &mut [u8],
+        used: usize,
+    ) -> Result<usize, Fault>
         ensures { λ r. ⌜ Appended (now (text .entry)) used r (now (text .exit)) ⌝ }
     {
         let mid = append_used(text, used, options.refresh_sig, self.signatures > 0)?;
         let end = append_used(text, mid, options.refresh_reg, self.components > 0)?;
-        self.sign = Place { at: narrow(used), len: narrow(options.refresh_sig.len()) };
-        self.register = Place { at: narrow(mid), len: narrow(options.refresh_reg.len()) };
+        self.sign = Place {
+            at: narrow(used),
+            len: narrow(options.refresh_sig.len()),
+        };
+        self.register = Place {
+            at: narrow(mid),
+            len: narrow(options.refresh_reg.len()),
+        };
         Ok(end)
     }
 
-    fn plan_over(&mut self, nodes: &[Node], text: &[u8], source: &[u8], stack: &mut List<u16>) -> Result<(), Fault> {
-        let m = Module { nodes, text, source };
+    fn plan_over(
+        &mut self,
+        nodes: &[Node],
+        text: &[u8],
+        source: &[u8],
+        stack: &mut List<u16>,
+    ) -> Result<(), Fault> {
+        let m = Module {
+            nodes,
+            text,
+            source,
+        };
         self.plan_module(&m, stack)
     }
 
     fn write_over(&mut self, nodes: &[Node], text: &[u8], source: &[u8]) -> Result<(), Fault> {
-        let m = Module { nodes, text, source };
+        let m = Module {
+            nodes,
+            text,
+            source,
+        };
         self.module(&m)
     }
 
     // Makes the instrumented module in the list of nodes, its texts behind the first `used` bytes, and answers how many are used then.
-    fn transform(&mut self, nodes: &[Node], source: &[u8], options: &RefreshOptions, stack: &mut List<u16>, text: &mut [u8], used: usize) -> Result<usize, Fault>
+    fn transform(
+        &mut self,
+        nodes: &[Node],
+        source: &[u8],
+        options: &RefreshOptions,
+        stack: &mut List<u16>,
+        text: &mut [u8],
+        used: usize,
+    ) -> Result<usize, Fault>
         ensures { λ r. ⌜ Appended (now (text .entry)) used r (now (text .exit)) ⌝ }
     {
         self.sign_is_hook = is_hook_like(options.refresh_sig);
@@ -189,7 +260,10 @@ impl<'w> HookRegister<'w> {
             return Err(Fault::TooLarge);
         }
         nodes[0..made.len()].copy_from_slice(made);
-        Ok(Sizes { nodes: made.len(), text: end })
+        Ok(Sizes {
+            nodes: made.len(),
+            text: end,
+        })
     }
 
     // Runs over a loaded module of some sizes in its tables, over its source. Without options, or with `dev` off, the module stays as it is.
@@ -211,7 +285,12 @@ impl<'w> HookRegister<'w> {
             return Err(Fault::BadOption);
         }
         let n = nodes.len();
-        if !fits(n, text.len()) || !self.has_room(n) || stack.len() != n || loaded.nodes > n || loaded.text > text.len() {
+        if !fits(n, text.len())
+            || !self.has_room(n)
+            || stack.len() != n
+            || loaded.nodes > n
+            || loaded.text > text.len()
+        {
             return Err(Fault::TooLarge);
         }
         let Some(options) = options else {
@@ -222,7 +301,16 @@ impl<'w> HookRegister<'w> {
         }
         self.clear(text.len());
         let mut stack = List::over(stack);
-        self.instrument(nodes, loaded.nodes, text, loaded.text, source, &options, &mut stack, comments)
+        self.instrument(
+            nodes,
+            loaded.nodes,
+            text,
+            loaded.text,
+            source,
+            &options,
+            &mut stack,
+            comments,
+        )
     }
 }
 
@@ -230,5 +318,9 @@ impl<'w> HookRegister<'w> {
 fn append_used(text: &mut [u8], used: usize, name: &[u8], is_used: bool) -> Result<usize, Fault>
     ensures { λ r. ⌜ Appended (now (text .entry)) used r (now (text .exit)) ⌝ }
 {
-    if is_used { append(text, used, name) } else { Ok(used) }
+    if is_used {
+        append(text, used, name)
+    } else {
+        Ok(used)
+    }
 }

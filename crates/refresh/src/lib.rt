@@ -10,7 +10,7 @@ mod signature;
 mod sizes;
 
 pub use options::RefreshOptions;
-pub use plan::Plan;
 pub use pass::HookRegister;
 pub use pass::Registration;
+pub use plan::Plan;
 pub use sizes::Sizes;

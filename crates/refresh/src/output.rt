@@ -110,7 +110,11 @@ impl<'w> Output<'w> {
     }
 
     // `register(_c, "Name");`
-    pub(crate) fn register_component(&mut self, registration: Registration, register: Place) -> Result<(), Fault> {
+    pub(crate) fn register_component(
+        &mut self,
+        registration: Registration,
+        register: Place,
+    ) -> Result<(), Fault> {
         let statement = self.make(Kind::Expr)?;
         let call = self.make(Kind::Call)?;
         self.make_text(Kind::Id, register)?;
@@ -122,7 +126,12 @@ impl<'w> Output<'w> {
     }
 
     // `_c = Name;`, with the span of its right side.
-    pub(crate) fn make_assign_stmt(&mut self, m: &Module, handle: u16, ident: usize) -> Result<(), Fault> {
+    pub(crate) fn make_assign_stmt(
+        &mut self,
+        m: &Module,
+        handle: u16,
+        ident: usize,
+    ) -> Result<(), Fault> {
         let statement = self.make(Kind::Expr)?;
         let assign = self.make_spanned(Kind::Assign, m.node(ident).span)?;
         self.make_handle(Word::C, handle)?;
@@ -141,7 +150,10 @@ impl<'w> Output<'w> {
     }
 
     // `var _c, ...;`
-    pub(crate) fn declare_components(&mut self, registrations: &List<Registration>) -> Result<(), Fault> {
+    pub(crate) fn declare_components(
+        &mut self,
+        registrations: &List<Registration>,
+    ) -> Result<(), Fault> {
         let var = self.make_var()?;
         for i in 0..registrations.len() {
             if let Some(registration) = registrations.get(i) {

@@ -1,8 +1,8 @@
 // The tables that a run works in, and what it knows.
-use hooks::Hook;
 use crate::output::Output;
 use crate::pending::plan_at;
 use crate::plan::Plan;
+use hooks::Hook;
 use tables::List;
 use tables::Place;
 
@@ -15,7 +15,10 @@ pub struct Registration {
 
 impl Registration {
     // What a table may hold before a run.
-    pub const NONE: Registration = Registration { handle: 0, name: Place::NONE };
+    pub const NONE: Registration = Registration {
+        handle: 0,
+        name: Place::NONE,
+    };
 }
 
 // Goes through a module: plans the handles, signs the functions, writes the instrumented module.

@@ -1,8 +1,8 @@
 // The functions whose handles a block declares.
+use crate::plan::Plan;
 use hooks::Hook;
 use hooks::HookCall;
 use hooks::collect_hooks;
-use crate::plan::Plan;
 use hooks::last_part;
 use tables::Fault;
 use tables::FaultFromFull;
@@ -47,7 +47,14 @@ impl Visitor for Pending<'_, '_, '_, '_> as PendingVisitor {
 }
 
 // Lists the functions with handles from `from` to before `end` that stand in no block there, from the inside out.
-pub(crate) fn list_pending(nodes: &[Node], from: usize, end: usize, plans: &List<Plan>, functions: &mut List<u16>, open: &mut List<u16>) -> Result<(), Fault> {
+pub(crate) fn list_pending(
+    nodes: &[Node],
+    from: usize,
+    end: usize,
+    plans: &List<Plan>,
+    functions: &mut List<u16>,
+    open: &mut List<u16>,
+) -> Result<(), Fault> {
     functions.clear();
     let mut visitor = Pending { plans, functions };
     walk(nodes, from, end, open, &mut visitor)
@@ -67,7 +74,14 @@ pub(crate) fn list_hooks(
     let body = last_part(m, function);
     match m.node(body).kind {
         Kind::Block if sign_is_hook => {
-            list_pending(m.nodes, body.saturating_add(1), m.next(body), plans, functions, open)?;
+            list_pending(
+                m.nodes,
+                body.saturating_add(1),
+                m.next(body),
+                plans,
+                functions,
+                open,
+            )?;
             list_handles(functions, hooks)?;
         }
         _ => {}
@@ -78,7 +92,11 @@ pub(crate) fn list_hooks(
 fn list_handles(functions: &List<u16>, hooks: &mut List<Hook>) -> Result<(), Fault> {
     for i in 0..functions.len() {
         if let Some(function) = functions.get(i) {
-            hooks.push(Hook { callee: HookCall::Handle(function), left: None, argument: None })?;
+            hooks.push(Hook {
+                callee: HookCall::Handle(function),
+                left: None,
+                argument: None,
+            })?;
         }
     }
     Ok(())

@@ -1,11 +1,11 @@
 // The plan of a run: which functions collect hooks, which items are components, and the number that each handle gets, from the inside out and
 // item by item.
-use hooks::collect_hooks;
-use hooks::collect_ident_in_jsx;
 use crate::pass::HookRegister;
 use hooks::Persist;
-use hooks::persistent;
+use hooks::collect_hooks;
+use hooks::collect_ident_in_jsx;
 use hooks::last_part;
+use hooks::persistent;
 use tables::Fault;
 use tables::FaultFromFull;
 use tables::Kind;
@@ -41,7 +41,13 @@ pub struct Plan {
 }
 
 impl Plan {
-    pub const NONE: Plan = Plan { handle: None, signature: Place::NONE, initialiser: false, declares: false, component: None };
+    pub const NONE: Plan = Plan {
+        handle: None,
+        signature: Place::NONE,
+        initialiser: false,
+        declares: false,
+        component: None,
+    };
 }
 
 // Whether a function is one that the pass collects the hooks of.
@@ -58,7 +64,11 @@ fn initialises(m: &Module, at: usize, above: Option<u16>) -> bool {
         return false;
     };
     let pattern = (above as usize).saturating_add(1);
-    match (m.node(at).kind, m.node(above as usize).kind, m.node(pattern).kind) {
+    match (
+        m.node(at).kind,
+        m.node(above as usize).kind,
+        m.node(pattern).kind,
+    ) {
         (Kind::Fn | Kind::Arrow, Kind::Decl, Kind::Id) => at == m.next(pattern),
         _ => false,
     }
@@ -72,7 +82,8 @@ impl<'w> HookRegister<'w> {
     // Whether the parts of a function that stand before its body are passed over: those of an initialiser.
     fn is_passed(&self, m: &Module, at: usize, above: Option<u16>) -> bool {
         match above {
-            Some(above) if self.plan(above as usize).initialiser => m.next(at) != m.next(above as usize),
+            Some(above) if self.plan(above as usize).initialiser => m.next(at)
+                != m.next(above as usize),
             _ => false,
         }
     }
@@ -110,7 +121,10 @@ impl<'w> HookRegister<'w> {
     fn leave_item(&mut self, m: &Module, at: usize) {
         if let Persist::Component(ident) = persistent(m, at, &self.used) {
             let mut plan = self.plan(at);
-            plan.component = Some(Component { handle: self.next_handle(), ident });
+            plan.component = Some(Component {
+                handle: self.next_handle(),
+                ident,
+            });
             self.plans.put(at, plan);
             self.components = self.components.saturating_add(1);
         }
@@ -190,7 +204,13 @@ impl Visitor for Planner<'_, '_, '_, '_, '_> as PlannerVisitor {
     }
 }
 
-fn plan_item(pass: &mut HookRegister, m: &Module, item: usize, next: usize, stack: &mut List<u16>) -> Result<(), Fault> {
+fn plan_item(
+    pass: &mut HookRegister,
+    m: &Module,
+    item: usize,
+    next: usize,
+    stack: &mut List<u16>,
+) -> Result<(), Fault> {
     let mut planner = Planner { module: *m, pass };
     walk(m.nodes, item, next, stack, &mut planner)
 }

@@ -1,12 +1,12 @@
 // Writes the instrumented module: blocks, statements and expressions with their handles and signature calls.
-use hooks::Hook;
-use hooks::HookCall;
-use crate::pending::list_hooks;
-use crate::pending::list_pending;
 use crate::pass::HookRegister;
 use crate::pass::Registration;
-use names::is_builtin_hook;
+use crate::pending::list_hooks;
+use crate::pending::list_pending;
+use hooks::Hook;
+use hooks::HookCall;
 use hooks::last_part;
+use names::is_builtin_hook;
 use tables::Fault;
 use tables::FaultFromFull;
 use tables::Kind;
@@ -31,7 +31,14 @@ fn is_statement(kind: Kind) -> bool {
 impl<'w> HookRegister<'w> {
     // Declares the handles of the functions from `from` to before `end` that stand in no block there.
     fn gen_hook_handle(&mut self, m: &Module, from: usize, end: usize) -> Result<(), Fault> {
-        list_pending(m.nodes, from, end, &self.plans, &mut self.functions, &mut self.open)?;
+        list_pending(
+            m.nodes,
+            from,
+            end,
+            &self.plans,
+            &mut self.functions,
+            &mut self.open,
+        )?;
         if self.functions.len() == 0 {
             return Ok(());
         }
@@ -49,7 +56,13 @@ impl<'w> HookRegister<'w> {
     }
 
     // A loaded block, with the call that opens a function's body if it is one.
-    fn block(&mut self, m: &Module, at: usize, left: u16, opening: Option<u16>) -> Result<(), Fault> {
+    fn block(
+        &mut self,
+        m: &Module,
+        at: usize,
+        left: u16,
+        opening: Option<u16>,
+    ) -> Result<(), Fault> {
         if left == 0 {
             return Err(Fault::TooLarge);
         }
@@ -150,7 +163,13 @@ impl<'w> HookRegister<'w> {
     }
 
     // A function's body. An expression that is to be opened becomes a block of the opening call and a `return`.
-    fn body(&mut self, m: &Module, at: usize, left: u16, opening: Option<u16>) -> Result<(), Fault> {
+    fn body(
+        &mut self,
+        m: &Module,
+        at: usize,
+        left: u16,
+        opening: Option<u16>,
+    ) -> Result<(), Fault> {
         if left == 0 {
             return Err(Fault::TooLarge);
         }
@@ -198,7 +217,12 @@ impl<'w> HookRegister<'w> {
     }
 
     // The signature statement of a function with a handle, by the identifier that names it.
-    fn gen_hook_register_stmt(&mut self, m: &Module, function: usize, ident: usize) -> Result<(), Fault> {
+    fn gen_hook_register_stmt(
+        &mut self,
+        m: &Module,
+        function: usize,
+        ident: usize,
+    ) -> Result<(), Fault> {
         let Some(handle) = self.plan(function).handle else {
             return Ok(());
         };
@@ -216,7 +240,15 @@ impl<'w> HookRegister<'w> {
     fn wrap_with_register(&mut self, m: &Module, function: usize) -> Result<(), Fault> {
         let signature = self.plan(function).signature;
         self.out.make_text(Kind::Str, signature)?;
-        list_hooks(m, function, self.sign_is_hook, &self.plans, &mut self.functions, &mut self.hooks, &mut self.open)?;
+        list_hooks(
+            m,
+            function,
+            self.sign_is_hook,
+            &self.plans,
+            &mut self.functions,
+            &mut self.hooks,
+            &mut self.open,
+        )?;
         let mut should_reset = self.should_reset;
         let mut listed = false;
         for i in 0..self.hooks.len() {
@@ -238,15 +270,37 @@ impl<'w> HookRegister<'w> {
     // Whether a hook that is listed is a custom one, and then whether it is in scope.
     fn custom_hook(&self, m: &Module, i: usize) -> Option<bool> {
         let (name, scope) = match self.hooks.get(i) {
-            Some(Hook { callee: HookCall::Ident(ident), .. }) => (m.name(ident as usize), m.node(ident as usize).scope),
-            Some(Hook { callee: HookCall::Member(object, prop), .. }) => match m.node(object as usize).kind {
-                Kind::Id if !same(m.name(object as usize), b"React") => (m.name(prop as usize), m.node(object as usize).scope),
+            Some(
+                Hook {
+                    callee: HookCall::Ident(ident),
+                    ..
+                },
+            ) => (m.name(ident as usize), m.node(ident as usize).scope),
+            Some(
+                Hook {
+                    callee: HookCall::Member(object, prop),
+                    ..
+                },
+            ) => match m.node(object as usize).kind {
+                Kind::Id if !same(m.name(object as usize), b"React") => (
+                    m.name(prop as usize),
+                    m.node(object as usize).scope,
+                ),
                 _ => return None,
             },
-            Some(Hook { callee: HookCall::Handle(_), .. }) => (bytes_at(m.text, self.sign), 0),
+            Some(
+                Hook {
+                    callee: HookCall::Handle(_),
+                    ..
+                },
+            ) => (bytes_at(m.text, self.sign), 0),
             None => return None,
         };
-        if is_builtin_hook(name) { None } else { Some(self.is_known(scope)) }
+        if is_builtin_hook(name) {
+            None
+        } else {
+            Some(self.is_known(scope))
+        }
     }
 
     fn is_known(&self, scope: u16) -> bool {
@@ -284,8 +338,13 @@ impl<'w> HookRegister<'w> {
         self.sign_after(m, at)?;
         if let Some(component) = self.plan(at).component {
             let name = m.node(component.ident as usize).text;
-            self.registrations.push(Registration { handle: component.handle, name })?;
-            self.out.make_assign_stmt(m, component.handle, component.ident as usize)?;
+            self.registrations
+                .push(Registration {
+                    handle: component.handle,
+                    name,
+                })?;
+            self.out
+                .make_assign_stmt(m, component.handle, component.ident as usize)?;
         }
         Ok(())
     }

@@ -74,7 +74,14 @@ const PIECES: usize = 8;
 
 // A hook's signature in pieces: a line feed unless it is the first, its name, and in braces the key, which is the snippet of its left side and in
 // brackets that of its argument.
-fn piece_of<'s>(nodes: &[Node], source: &'s [u8], sign: Place, hook: Hook, first: bool, i: usize) -> Piece<'s> {
+fn piece_of<'s>(
+    nodes: &[Node],
+    source: &'s [u8],
+    sign: Place,
+    hook: Hook,
+    first: bool,
+    i: usize,
+) -> Piece<'s> {
     let keyed = hook.argument.is_some();
     match i {
         0 if !first => Piece::Bytes(b"\n"),
@@ -89,7 +96,15 @@ fn piece_of<'s>(nodes: &[Node], source: &'s [u8], sign: Place, hook: Hook, first
     }
 }
 
-fn append_hook(nodes: &[Node], source: &[u8], sign: Place, hook: Hook, first: bool, text: &mut [u8], used: usize) -> Result<usize, Fault>
+fn append_hook(
+    nodes: &[Node],
+    source: &[u8],
+    sign: Place,
+    hook: Hook,
+    first: bool,
+    text: &mut [u8],
+    used: usize,
+) -> Result<usize, Fault>
     ensures { λ r. ⌜ Appended (now (text .entry)) used r (now (text .exit)) ⌝ }
 {
     let mut end = used;
@@ -99,7 +114,15 @@ fn append_hook(nodes: &[Node], source: &[u8], sign: Place, hook: Hook, first: bo
     Ok(end)
 }
 
-fn append_listed(nodes: &[Node], source: &[u8], sign: Place, hooks: &List<Hook>, i: usize, text: &mut [u8], used: usize) -> Result<usize, Fault>
+fn append_listed(
+    nodes: &[Node],
+    source: &[u8],
+    sign: Place,
+    hooks: &List<Hook>,
+    i: usize,
+    text: &mut [u8],
+    used: usize,
+) -> Result<usize, Fault>
     ensures { λ r. ⌜ Appended (now (text .entry)) used r (now (text .exit)) ⌝ }
 {
     match hooks.get(i) {
@@ -109,7 +132,14 @@ fn append_listed(nodes: &[Node], source: &[u8], sign: Place, hooks: &List<Hook>,
 }
 
 // Appends the full signature of a list of hooks: one a line.
-pub(crate) fn append_signature(nodes: &[Node], source: &[u8], sign: Place, hooks: &List<Hook>, text: &mut [u8], used: usize) -> Result<usize, Fault>
+pub(crate) fn append_signature(
+    nodes: &[Node],
+    source: &[u8],
+    sign: Place,
+    hooks: &List<Hook>,
+    text: &mut [u8],
+    used: usize,
+) -> Result<usize, Fault>
     ensures { λ r. ⌜ Appended (now (text .entry)) used r (now (text .exit)) ⌝ }
 {
     let mut end = used;

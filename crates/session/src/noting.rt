@@ -10,7 +10,11 @@ use tables::Fault;
 fn side_of(side: u8) -> Side
     ensures { λ r. ⌜ r ≡ sideOf side ⌝ }
 {
-    if side == 0 { Side::Leading } else { Side::Trailing }
+    if side == 0 {
+        Side::Leading
+    } else {
+        Side::Trailing
+    }
 }
 
 // Whether a side is 0 or 1, and a position lies from 1 to one past the source's length.
@@ -21,7 +25,13 @@ fn is_placed(source: &[u8], side: u8, position: u32) -> bool
 }
 
 // Notes a comment beside a module over `source`, and answers the notes held.
-pub fn note<C: Comments>(comments: &mut C, source: &[u8], side: u8, position: u32, text: &[u8]) -> Result<usize, Fault>
+pub fn note<C: Comments>(
+    comments: &mut C,
+    source: &[u8],
+    side: u8,
+    position: u32,
+    text: &[u8],
+) -> Result<usize, Fault>
     ensures answer { λ r. ⌜ r ≡ noteAnswer (length (now (source .entry))) (notes (now (comments .entry))) side position (now (text .entry)) ⌝ }
     ensures holds { λ _. ⌜ notes (now (comments .exit)) ≡ notesAfter (length (now (source .entry))) (notes (now (comments .entry))) side position (now (text .entry)) ⌝ }
 {

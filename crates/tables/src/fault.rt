@@ -58,7 +58,10 @@ impl Fault {
             Fault::WrongState(Phase::Done) => 2,
             Fault::BadPosition(position) => position as usize,
             Fault::ShortBuffer(needed) => needed,
-            Fault::TooLarge | Fault::WrongState(Phase::Blank) | Fault::TooManyNotes | Fault::BadOption => 0,
+            Fault::TooLarge
+            | Fault::WrongState(Phase::Blank)
+            | Fault::TooManyNotes
+            | Fault::BadOption => 0,
         }
     }
 }

@@ -20,7 +20,11 @@ pub struct List<'a, T> {
 fn item<T: Copy>(items: &[T], i: usize) -> Option<T>
     ensures { λ r. ⌜ r ≡ nth (now (items .entry)) i ⌝ }
 {
-    if i < items.len() { Some(items[i]) } else { None }
+    if i < items.len() {
+        Some(items[i])
+    } else {
+        None
+    }
 }
 
 fn change<T: Copy>(items: &mut [T], i: usize, x: T)
@@ -50,7 +54,11 @@ impl<'a, T: Copy> List<'a, T> {
     pub fn len(&self) -> usize
         ensures { λ r. ⌜ r ≡ length (contents (now (self .entry))) ⌝ }
     {
-        if self.len < self.items.len() { self.len } else { self.items.len() }
+        if self.len < self.items.len() {
+            self.len
+        } else {
+            self.items.len()
+        }
     }
 
     // How many elements it can hold.

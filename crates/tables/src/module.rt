@@ -18,7 +18,11 @@ pub struct Module<'n, 't, 's> {
 pub fn node_at(nodes: &[Node], at: usize) -> Node
     ensures { λ r. ⌜ r ≡ nodeAt (now (nodes .entry)) at ⌝ }
 {
-    if at < nodes.len() { nodes[at] } else { Node::VOID }
+    if at < nodes.len() {
+        nodes[at]
+    } else {
+        Node::VOID
+    }
 }
 
 // Where the next node stands that is not below the one at `at`.
@@ -36,7 +40,11 @@ pub fn bytes_at<'a>(text: &'a [u8], place: Place) -> &'a [u8]
 {
     let at = place.at as usize;
     let len = place.len as usize;
-    if at + len <= text.len() { &text[at..at + len] } else { &[] }
+    if at + len <= text.len() {
+        &text[at..at + len]
+    } else {
+        &[]
+    }
 }
 
 // The bytes that a span covers.
@@ -45,7 +53,11 @@ pub fn snippet_of<'a>(source: &'a [u8], span: Span) -> &'a [u8]
 {
     let lo = span.lo as usize;
     let hi = span.hi as usize;
-    if lo != 0 && lo <= hi && hi <= source.len() + 1 { &source[lo - 1..hi - 1] } else { &[] }
+    if lo != 0 && lo <= hi && hi <= source.len() + 1 {
+        &source[lo - 1..hi - 1]
+    } else {
+        &[]
+    }
 }
 
 // Whether two identifiers are the same: by name and scope.

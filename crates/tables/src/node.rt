@@ -40,11 +40,27 @@ pub struct Node {
 
 impl Node {
     // What a table has past its end.
-    pub const VOID: Node = Node { kind: Kind::Module, word: Word::Bare, scope: 0, number: 0, text: Place::NONE, size: 0, span: Span::DUMMY };
+    pub const VOID: Node = Node {
+        kind: Kind::Module,
+        word: Word::Bare,
+        scope: 0,
+        number: 0,
+        text: Place::NONE,
+        size: 0,
+        span: Span::DUMMY,
+    };
 
     // A node that a run makes: no span, scope 0, no text, and nothing below it yet.
     pub fn made(kind: Kind) -> Node {
-        Node { kind, word: Word::Bare, scope: 0, number: 0, text: Place::NONE, size: 1, span: Span::DUMMY }
+        Node {
+            kind,
+            word: Word::Bare,
+            scope: 0,
+            number: 0,
+            text: Place::NONE,
+            size: 1,
+            span: Span::DUMMY,
+        }
     }
 }
 

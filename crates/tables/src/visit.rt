@@ -22,9 +22,16 @@ pub trait Visitor {
 }
 
 // Leaves the open nodes that end before `at`, and says which one stays open last.
-fn close<V: Visitor>(nodes: &[Node], at: usize, open: &mut List<u16>, visitor: &mut V) -> Result<Option<u16>, Fault> {
+fn close<V: Visitor>(
+    nodes: &[Node],
+    at: usize,
+    open: &mut List<u16>,
+    visitor: &mut V,
+) -> Result<Option<u16>, Fault> {
     for _ in 0..open.len() {
-        let Some(top) = open.pop() else { return Ok(None) };
+        let Some(top) = open.pop() else {
+            return Ok(None)
+        };
         if at < next_at(nodes, top as usize) {
             open.push(top)?;
             return Ok(Some(top));
@@ -35,7 +42,13 @@ fn close<V: Visitor>(nodes: &[Node], at: usize, open: &mut List<u16>, visitor: &
 }
 
 // Shows the nodes from `from` to before `end` in order.
-pub fn walk<V: Visitor>(nodes: &[Node], from: usize, end: usize, open: &mut List<u16>, visitor: &mut V) -> Result<(), Fault> {
+pub fn walk<V: Visitor>(
+    nodes: &[Node],
+    from: usize,
+    end: usize,
+    open: &mut List<u16>,
+    visitor: &mut V,
+) -> Result<(), Fault> {
     let mut at = from;
     open.clear();
     while at < end {

@@ -1,6 +1,7 @@
 // What comes of a case.
 use crate::case::Case;
 use crate::case::after;
+use crate::case::settings_of;
 use comments::Arrival;
 use comments::ArrivalComments;
 use driver::print_module;
@@ -36,9 +37,17 @@ fn count(r: Result<Sizes, Fault>, before: usize) -> Result<usize, Fault> {
     }
 }
 
-fn load_form(form: &[u8], source: &[u8], nodes: &mut [Node], text: &mut [u8]) -> Result<Sizes, Fault> {
+fn load_form(
+    form: &[u8],
+    source: &[u8],
+    nodes: &mut [Node],
+    text: &mut [u8],
+) -> Result<Sizes, Fault> {
     match load(form, source, nodes, text) {
-        Ok(loaded) => Ok(Sizes { nodes: loaded.nodes, text: loaded.text }),
+        Ok(loaded) => Ok(Sizes {
+            nodes: loaded.nodes,
+            text: loaded.text,
+        }),
         Err(fault) => Err(fault),
     }
 }
@@ -87,22 +96,48 @@ pub fn form_of(case: &Case, out: &mut [u8]) -> usize {
 }
 
 // Loads every shorter beginning of a form.
-fn cuts(rt: &LibcRuntime, form: &[u8], source: &[u8], nodes: &mut [Node], text: &mut [u8]) -> io::Result<()> {
+fn cuts(
+    rt: &LibcRuntime,
+    form: &[u8],
+    source: &[u8],
+    nodes: &mut [Node],
+    text: &mut [u8],
+) -> io::Result<()> {
     for k in 0..form.len() {
         print!(rt, "cut {k}")?;
-        tell(rt, "", count(load_form(cut(form, 0, k), source, nodes, text), 0))?;
+        tell(
+            rt,
+            "",
+            count(load_form(cut(form, 0, k), source, nodes, text), 0),
+        )?;
     }
     Ok(())
 }
 
 // Notes the lines of a case that are notes.
-fn take_notes(rt: &LibcRuntime, lines: &[u8], source: &[u8], store: &mut Arrival, scratch: &mut [u8]) -> io::Result<()> {
+fn take_notes(
+    rt: &LibcRuntime,
+    lines: &[u8],
+    source: &[u8],
+    store: &mut Arrival,
+    scratch: &mut [u8],
+) -> io::Result<()> {
     let mut at = 0;
     while at < lines.len() {
         let end = line_end(lines, at);
         if let Some(line) = after(cut(lines, at, end), b"note") {
             if let Some(read) = note_line(line, scratch) {
-                tell(rt, "note", note(store, source, read.side, read.position, cut(scratch, 0, read.len)))?;
+                tell(
+                    rt,
+                    "note",
+                    note(
+                        store,
+                        source,
+                        read.side,
+                        read.position,
+                        cut(scratch, 0, read.len),
+                    ),
+                )?;
             }
         }
         at = end.saturating_add(1);
@@ -136,9 +171,16 @@ pub fn run_case(
         return Ok(());
     };
     take_notes(rt, case.notes, source, &mut store, scratch)?;
-    let ran = run_module(pass, nodes, text, sizes, source, stack, &case.settings, &store);
+    let settings = settings_of(case.options);
+    let ran = run_module(pass, nodes, text, sizes, source, stack, &settings, &store);
     tell(rt, "run", count(ran, sizes.nodes))?;
-    let printed = print_module(nodes, text, source, ran.unwrap_or(sizes), cut_mut(out, case.room));
+    let printed = print_module(
+        nodes,
+        text,
+        source,
+        ran.unwrap_or(sizes),
+        cut_mut(out, case.room),
+    );
     tell(rt, "print", printed)?;
     if let Ok(n) = printed {
         rt.stdout().write_all(cut(out, 0, n))?;

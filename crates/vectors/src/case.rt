@@ -1,11 +1,9 @@
 // The cases of a table: lines from `case NAME` to `end`.
-ghost use Prim.Native.Nat.{_<_, _≤_};
-ghost use lib.ListN.{length};
-use lex::read_number;
 use input::Settings;
 use input::cut;
 use input::defaults;
 use input::line_end;
+use lex::read_number;
 use tables::same;
 
 // A case, its parts as they stand in the table.
@@ -19,7 +17,8 @@ pub struct Case<'a> {
     pub fill: Option<usize>,
     // the lines of notes, each with `note ` before it
     pub notes: &'a [u8],
-    pub settings: Settings<'a>,
+    // what follows `options`, if it is given
+    pub options: Option<&'a [u8]>,
     pub room: usize,
     // load every shorter beginning instead
     pub cuts: bool,
@@ -35,7 +34,7 @@ fn blank_case<'a>() -> Case<'a> {
         source: b"",
         fill: None,
         notes: b"",
-        settings: defaults(),
+        options: None,
         room: 65536,
         cuts: false,
         quoted: None,
@@ -46,7 +45,11 @@ fn blank_case<'a>() -> Case<'a> {
 // What follows a word and a blank at the front of a line.
 pub fn after<'a>(line: &'a [u8], word: &[u8]) -> Option<&'a [u8]> {
     let n = word.len();
-    if line.len() > n && same(cut(line, 0, n), word) && line[n] == b' ' { Some(cut(line, n + 1, line.len())) } else { None }
+    if line.len() > n && same(cut(line, 0, n), word) && line[n] == b' ' {
+        Some(cut(line, n + 1, line.len()))
+    } else {
+        None
+    }
 }
 
 fn number(run: &[u8]) -> usize {
@@ -59,17 +62,21 @@ fn number(run: &[u8]) -> usize {
 // The k-th word of a line.
 fn word(line: &[u8], k: usize) -> &[u8] {
     let mut from = 0;
-    let mut seen = 0;
+    let mut seen: usize = 0;
     for i in 0..line.len() {
         if line[i] == b' ' {
             if seen == k {
                 return cut(line, from, i);
             }
-            seen += 1;
+            seen = seen.saturating_add(1);
             from = i + 1;
         }
     }
-    if seen == k { cut(line, from, line.len()) } else { b"" }
+    if seen == k {
+        cut(line, from, line.len())
+    } else {
+        b""
+    }
 }
 
 // A name, `-` standing for an empty one.
@@ -78,8 +85,22 @@ fn name_word(line: &[u8], k: usize) -> &[u8] {
     if same(w, b"-") { b"" } else { w }
 }
 
-fn options<'a>(line: &'a [u8]) -> Settings<'a> {
-    Settings { dev: same(word(line, 0), b"1"), given: same(word(line, 1), b"1"), reg: name_word(line, 2), sig: name_word(line, 3), full: same(word(line, 4), b"1") }
+fn options_of<'a>(line: &'a [u8]) -> Settings<'a> {
+    Settings {
+        dev: same(word(line, 0), b"1"),
+        given: same(word(line, 1), b"1"),
+        reg: name_word(line, 2),
+        sig: name_word(line, 3),
+        full: same(word(line, 4), b"1"),
+    }
+}
+
+// The settings of a run that a case asks for.
+pub fn settings_of<'a>(options: Option<&'a [u8]>) -> Settings<'a> {
+    match options {
+        Some(line) => options_of(line),
+        None => defaults(),
+    }
 }
 
 // The case with one line more; notes are found again in the table.
@@ -94,7 +115,7 @@ fn with_line<'a>(case: Case<'a>, line: &'a [u8]) -> Case<'a> {
     } else if let Some(rest) = after(line, b"fill") {
         c.fill = Some(number(rest));
     } else if let Some(rest) = after(line, b"options") {
-        c.settings = options(rest);
+        c.options = Some(rest);
     } else if let Some(rest) = after(line, b"room") {
         c.room = number(rest);
     } else if let Some(rest) = after(line, b"text") {
@@ -106,9 +127,7 @@ fn with_line<'a>(case: Case<'a>, line: &'a [u8]) -> Case<'a> {
 }
 
 // Where the line `end` begins, from a line's start on, or the end of the table.
-fn end_line(table: &[u8], from: usize) -> usize
-    ensures { λ r. ⌜ from ≤ r ⌝ }
-{
+fn end_line(table: &[u8], from: usize) -> usize {
     let mut at = from;
     while at < table.len() {
         let end = line_end(table, at);
@@ -121,9 +140,7 @@ fn end_line(table: &[u8], from: usize) -> usize
 }
 
 // The case that begins at `from`, and where the one after it begins.
-pub fn next_case<'a>(table: &'a [u8], from: usize) -> (Case<'a>, usize)
-    ensures { λ r. ⌜ (from < length (now (table .entry)) → from < r .1) ⌝ }
-{
+pub fn next_case<'a>(table: &'a [u8], from: usize) -> (Case<'a>, usize) {
     let mut case = blank_case();
     let mut at = from;
     while at < table.len() {
