@@ -1,2 +1,5 @@
 pub mod Bounded
+pub mod Logged
+pub mod Rounds
+pub mod Stacked
 pub mod Tested

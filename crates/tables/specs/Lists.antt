@@ -2,9 +2,11 @@
 use mathlib.Core.Path.{_≡_}
 use mathlib.Core.Bool.{Bool, cond}
 use mathlib.Core.List.{List}
-use Prim.Native.Nat.{ℕ}
+use Prim.Native.Nat.{ℕ, _-_}
 use lib.Dec.{ltb}
 use lib.ListN.{length, take}
+use Rattle.std.specs.Finite.{nth}
+use Rattle.std.specs.declared.option.Option.{Option}
 use Rattle.std.specs.declared.result.Result.{Result}
 use Rattle.std.specs.declared.result.Result.the-variants.{Ok, Err}
 use Rattle.tables.specs.declared.list.List.{List as Bounded}
@@ -25,3 +27,7 @@ takes l = ltb (length (contents l)) (room l)
 -- what a push answers
 abbrev pub answer : {X : Type 0} → Bounded X → Result (Unit {0}) Full
 answer l = cond (takes l) (Ok tt) (Err (record {}))
+
+-- the last element of a list
+abbrev pub last : {X : Type 0} → List X → Option X
+last xs = nth xs (length xs - 1)

@@ -1,5 +1,6 @@
 // Why a call is refused. Each refusal has a number and a place.
 ghost use mathlib.Core.Path.{_≡_};
+ghost use Rattle.tables.specs.declared.fault.Fault.the-variants.{TooLarge};
 ghost use Rattle.tables.specs.Faults.{number, place};
 use crate::list::Full;
 
@@ -68,7 +69,7 @@ impl Fault {
 
 // A list that is full holds as many entries as the tables may have.
 pub impl From<Full> for Fault as FaultFromFull {
-    ghost converts = { λ _ e. number e ≡ 4 };
+    ghost converts = { λ _ e. e ≡ TooLarge };
 
     fn from(_full: Full) -> Fault {
         Fault::TooLarge
