@@ -1,4 +1,12 @@
 // Whether a comment in the module asks for a reset.
+ghost use mathlib.Core.Path.{_≡_};
+ghost use mathlib.Core.Bool.{_||_};
+ghost use denote.Ref.{now as held};
+ghost use Rattle.std.specs.declared.result.Result.the-variants.{Ok};
+ghost use Rattle.tables.specs.declared.visit.Step.the-variants.{Into};
+ghost use Rattle.tables.specs.Lists.{room};
+ghost use Rattle.tables.specs.Modules.{nodeAt};
+ghost use Rattle.hooks.specs.Resets.{asked, Forced};
 use comments::Comments;
 use comments::Side;
 use tables::Fault;
@@ -17,7 +25,9 @@ struct Reset<'c, C: Comments> {
 }
 
 // A leading note at hi - 1 or lo, or a trailing note at lo or hi; a dummy span asks nothing.
-fn asks<C: Comments>(comments: &C, span: Span) -> bool {
+fn asks<C: Comments>(comments: &C, span: Span) -> bool
+    ensures { λ r. ⌜ r ≡ asked (notes (now (comments .entry))) span ⌝ }
+{
     let needle = b"@refresh reset";
     span.hi != 0
         && (comments.ask(Side::Leading, span.hi - 1, needle)
@@ -27,6 +37,10 @@ fn asks<C: Comments>(comments: &C, span: Span) -> bool {
 }
 
 impl<C: Comments> Visitor for Reset<'_, C> as ResetVisitor {
+    ghost entering = { λ s nodes at above r s′. (r ≡ Ok Into) × (held (s′ .comments) ≡ held (s .comments)) × (s′ .forced ≡ (s .forced || asked (notes (held (s .comments))) (nodeAt nodes at .span))) };
+
+    ghost leaving = { λ s nodes at r s′. (r ≡ Ok tt) × (s′ ≡ s) };
+
     fn enter(&mut self, nodes: &[Node], at: usize, _above: Option<u16>) -> Result<Step, Fault> {
         if !self.forced {
             self.forced = asks(self.comments, node_at(nodes, at).span);
@@ -44,7 +58,9 @@ pub fn is_forced<C: Comments>(
     comments: &C,
     nodes: &[Node],
     open: &mut List<u16>,
-) -> Result<bool, Fault> {
+) -> Result<bool, Fault>
+    ensures { λ r. ⌜ Forced (notes (now (comments .entry))) (now (nodes .entry)) (room (now («open» .entry))) r ⌝ }
+{
     let mut visitor = Reset {
         comments,
         forced: false,
