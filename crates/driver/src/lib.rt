@@ -1,6 +1,8 @@
 // One module from its files to its instrumented text: load, notes, run, print, in tables that the program lends.
+mod in_tables;
 mod steps;
 
+pub use in_tables::instrument_in_tables;
 pub use steps::Call;
 pub use steps::Done;
 pub use steps::Stop;

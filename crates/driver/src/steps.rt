@@ -1,6 +1,5 @@
 // The steps from a module's files to its instrumented text.
 use comments::Comments;
-use form::Loaded;
 use form::load;
 use form::print;
 use input::Settings;

@@ -6,5 +6,4 @@ mod words;
 
 pub use printer::print;
 pub use reader::Loaded;
-pub use reader::fits;
 pub use reader::load;

@@ -3,7 +3,6 @@ ghost use mathlib.Core.Path.{_≡_};
 ghost use Prim.Native.Nat.{_≤_};
 ghost use lib.ListN.{length};
 ghost use Rattle.std.specs.Vec.{made};
-ghost use Rattle.form.specs.Sizes.{sizesFit};
 use crate::grammar::Rest;
 use crate::grammar::after;
 use crate::grammar::closes;
@@ -21,6 +20,7 @@ use tables::Node;
 use tables::Place;
 use tables::Span;
 use tables::Word;
+use tables::fits;
 use tables::is_name;
 use tables::narrow;
 use tables::same;
@@ -297,13 +297,6 @@ impl<'t, 'n, 'x> Loader<'t, 'n, 'x> {
         self.finish(0);
         Ok(())
     }
-}
-
-// Whether the tables are as N asks, which is the number of node entries, and the source is short enough.
-pub fn fits(nodes: usize, text: usize, source: usize) -> bool
-    ensures { λ r. ⌜ r ≡ sizesFit nodes text source ⌝ }
-{
-    nodes >= 16 && nodes <= 8192 && text == 6 * nodes && source <= 65535
 }
 
 // Loads the module whose text form is `form`, over `source`.

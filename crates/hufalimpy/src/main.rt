@@ -1,81 +1,22 @@
 // Instruments one module: `hufalimpy [FORM SOURCE]`. The module goes to standard output, one line on what was done to standard error.
 mod message;
 
-use comments::Arrival;
-use comments::ArrivalComments;
-use driver::Done;
-use driver::Stop;
-use driver::instrument;
-use hooks::Hook;
+use driver::instrument_in_tables;
 use input::Settings;
 use input::defaults;
 use input::read_settings;
 use message::tell_done;
 use message::tell_stop;
-use refresh::HookRegister;
-use refresh::Plan;
-use refresh::Registration;
 use std::env;
 use std::error::AnyError;
 use std::fs;
 use std::io::Write;
 use std::path::Path;
-use tables::Node;
 
 // The nodes that the tables have room for, and more bytes than a module of that size prints.
 const N: usize = 8192;
 
-const TEXT: usize = 49152;
-
 const OUT: usize = 393216;
-
-// Instruments in tables that are made once and lent.
-fn process(
-    form: &[u8],
-    source: &[u8],
-    notes: &[u8],
-    settings: &Settings,
-    scratch: &mut [u8],
-    out: &mut [u8],
-) -> Result<Done, Stop> {
-    let mut nodes = [Node::VOID; N];
-    let mut text = [0u8; TEXT];
-    let mut stack = [0u16; N];
-    let mut made = [Node::VOID; N];
-    let mut plans = [Plan::NONE; N];
-    let mut hooks = [Hook::NONE; N];
-    let mut registrations = [Registration::NONE; N];
-    let mut idents = [0u16; N];
-    let mut functions = [0u16; N];
-    let mut scopes = [0u16; N];
-    let mut blocks = [0u16; N];
-    let mut open = [0u16; N];
-    let mut store = Arrival::new();
-    let mut pass = HookRegister::over(
-        &mut made,
-        &mut plans,
-        &mut hooks,
-        &mut registrations,
-        &mut idents,
-        &mut functions,
-        &mut scopes,
-        &mut blocks,
-        &mut open,
-    );
-    instrument(
-        form,
-        source,
-        notes,
-        settings,
-        &mut pass,
-        &mut nodes,
-        &mut text,
-        &mut stack,
-        &mut store,
-        scratch,
-        out,
-    )
-}
 
 // A file that has to be there.
 fn read(rt: &LibcRuntime, path: &str) -> Result<Vec<u8>, AnyError> {
@@ -127,11 +68,12 @@ fn instrument_files(rt: &LibcRuntime, form_path: &str, source_path: &str) -> Res
     let settings = settings_of(rt, form_path, options.as_slice())?;
     let mut scratch = vec![in heap; 0u8; notes.len()]?;
     let mut out = vec![in heap; 0u8; OUT]?;
-    match process(
+    match instrument_in_tables(
         form.as_slice(),
         source.as_slice(),
         notes.as_slice(),
         &settings,
+        N,
         scratch.as_mut_slice(),
         out.as_mut_slice(),
     ) {

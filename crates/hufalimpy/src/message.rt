@@ -3,7 +3,6 @@ use driver::Call;
 use driver::Done;
 use driver::Stop;
 use std::io;
-use tables::Fault;
 
 fn call_name(call: Call) -> &'static str {
     match call {

@@ -23,12 +23,8 @@ use tables::List;
 use tables::Module;
 use tables::Node;
 use tables::Place;
+use tables::fits;
 use tables::narrow;
-
-// Whether the module's tables are as the number of node entries asks.
-fn fits(nodes: usize, text: usize) -> bool {
-    nodes >= 16 && nodes <= 8192 && text == 6 * nodes
-}
 
 impl<'w> HookRegister<'w> {
     // A pass that works in tables which the caller lends, each with as many entries as the node table. What they hold does not matter.
@@ -285,7 +281,7 @@ impl<'w> HookRegister<'w> {
             return Err(Fault::BadOption);
         }
         let n = nodes.len();
-        if !fits(n, text.len())
+        if !fits(n, text.len(), source.len())
             || !self.has_room(n)
             || stack.len() != n
             || loaded.nodes > n

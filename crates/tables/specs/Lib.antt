@@ -7,3 +7,4 @@ pub mod Trees
 pub mod Shown
 pub mod Turns
 pub mod Logs
+pub mod Sizes

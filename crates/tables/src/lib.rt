@@ -4,6 +4,7 @@ mod kind;
 mod list;
 mod module;
 mod node;
+mod sizes;
 mod text;
 mod visit;
 
@@ -24,6 +25,7 @@ pub use node::Node;
 pub use node::Place;
 pub use node::Span;
 pub use node::narrow;
+pub use sizes::fits;
 pub use text::Class;
 pub use text::all_name_chars;
 pub use text::class_of;

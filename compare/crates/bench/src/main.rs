@@ -4,6 +4,7 @@
 
 mod heap;
 mod module;
+mod ours;
 mod parties;
 
 use std::{env, hint::black_box, time::Instant};
@@ -76,7 +77,17 @@ fn main() {
                 run.held
             );
         }
+        let ours = ours::time(&case.form, &case.source, rounds, nodes);
+        assert!(printed.as_ref() == Some(&ours.printed), "the port prints something else");
+        let each = |nanoseconds: f64| nanoseconds / nodes as f64;
+        println!(
+            "| {nodes} | {bytes} | the port | {:.1} | {:.1} | {:.1} | 0 | 0 |",
+            each(ours.load),
+            each(ours.run),
+            each(ours.print)
+        );
     }
+    println!("\nThe port's tables take {} bytes for each node that they have room for.", port::bytes_per_node());
 }
 
 fn median(mut costs: Vec<Cost>) -> Cost {

@@ -1,6 +1,6 @@
 //! Who is timed. All do the same rounds: load, run, print.
 
-use case::{Case, Options};
+use case::Case;
 
 #[derive(Clone, Copy, PartialEq, Eq)]
 pub enum Step {
@@ -60,55 +60,7 @@ impl Party for Reference {
     }
 }
 
-/// A port behind C functions. Whoever has one makes `Calls` of them (in a crate
-/// that links its static library in a build script) and adds it to `parties`.
-pub trait Calls {
-    fn name(&self) -> &'static str;
-    /// Blank to loaded; the nodes loaded.
-    fn load(&mut self, form: &[u8], source: &[u8], nodes: usize) -> Result<u64, (u32, u64)>;
-    fn note(&mut self, side: u64, position: u64, text: &[u8]) -> Result<u64, (u32, u64)>;
-    /// Loaded to done; the nodes added.
-    fn run(&mut self, options: &Options) -> Result<u64, (u32, u64)>;
-    /// The bytes written.
-    fn print(&mut self, buffer: &mut [u8]) -> Result<u64, (u32, u64)>;
-    fn clear(&mut self);
-}
-
-pub struct Port<C: Calls> {
-    calls: C,
-    buffer: Vec<u8>,
-}
-
-impl<C: Calls> Port<C> {
-    #[allow(dead_code)]
-    pub fn new(calls: C) -> Port<C> {
-        // More than any module prints.
-        Port { calls, buffer: vec![0; 311_296] }
-    }
-}
-
-impl<C: Calls> Party for Port<C> {
-    fn name(&self) -> &'static str {
-        self.calls.name()
-    }
-
-    fn round(&mut self, case: &Case, done: &mut dyn FnMut(Step)) -> Vec<u8> {
-        let Case { form, source, notes, options } = case;
-        self.calls.load(form, source, options.nodes).expect("load");
-        for note in notes {
-            self.calls.note(note.side, note.position, &note.text).expect("note");
-        }
-        done(Step::Loaded);
-        self.calls.run(options).expect("run");
-        done(Step::Ran);
-        let bytes = self.calls.print(&mut self.buffer).expect("print");
-        done(Step::Printed);
-        self.calls.clear();
-        self.buffer[..bytes as usize].to_vec()
-    }
-}
-
-/// Everyone timed. A port's place is here: `Box::new(Port::new(...))`.
+/// Everyone timed step by step; the port is timed by repeating a step.
 pub fn parties() -> Vec<Box<dyn Party>> {
     vec![Box::new(Published), Box::new(Reference)]
 }

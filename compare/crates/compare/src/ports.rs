@@ -5,5 +5,5 @@ use case::Port;
 /// Each is to answer every case as the reference does, handle numbers and
 /// refusals included.
 pub fn ports() -> Vec<Box<dyn Port>> {
-    Vec::new()
+    vec![Box::new(port::Hufalimpy::new())]
 }

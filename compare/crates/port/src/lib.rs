@@ -16,6 +16,46 @@ extern "C" {
         out: *mut u8,
         out_len: usize,
     ) -> u64;
+
+    fn hufalimpy_repeat(
+        form: *const u8,
+        form_len: usize,
+        source: *const u8,
+        source_len: usize,
+        runs: usize,
+        loads: usize,
+        prints: usize,
+        out: *mut u8,
+        out_len: usize,
+    ) -> u64;
+
+    fn hufalimpy_bytes_per_node() -> u64;
+}
+
+/// Loads so many times, each time with a run if `runs`, and then prints so many
+/// times, over tables that are made once. Answers the bytes printed.
+pub fn repeat(form: &[u8], source: &[u8], runs: bool, loads: usize, prints: usize, out: &mut [u8]) -> usize {
+    // The function asks nothing of its arguments but that the slices are slices.
+    let answer = unsafe {
+        hufalimpy_repeat(
+            form.as_ptr(),
+            form.len(),
+            source.as_ptr(),
+            source.len(),
+            runs as usize,
+            loads,
+            prints,
+            out.as_mut_ptr(),
+            out.len(),
+        )
+    };
+    assert!(answer < REFUSED, "the port refuses: {answer:x}");
+    answer as usize
+}
+
+/// What all tables of the port take for each node, in bytes.
+pub fn bytes_per_node() -> u64 {
+    unsafe { hufalimpy_bytes_per_node() }
 }
 
 /// More than any module of 8,192 nodes prints.
