@@ -7,11 +7,11 @@ use tables::Kind;
 use tables::List;
 use tables::Module;
 use tables::Node;
-use tables::Step;
-use tables::Visitor;
 use tables::narrow;
 use tables::same;
-use tables::walk;
+use walk::Step;
+use walk::Visitor;
+use walk::walk;
 
 // The callee of a hook call, by node numbers: an identifier, or a member by its object and its property. `Handle` is the call of a hook-like
 // signature name that declares the handle of the function with that number.

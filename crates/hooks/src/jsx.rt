@@ -5,12 +5,12 @@ use tables::Kind;
 use tables::List;
 use tables::Module;
 use tables::Node;
-use tables::Step;
-use tables::Visitor;
 use tables::narrow;
 use tables::same;
 use tables::same_ident;
-use tables::walk;
+use walk::Step;
+use walk::Visitor;
+use walk::walk;
 
 // Lists the node numbers of identifiers that are used in JSX.
 #[derive(Drop)]

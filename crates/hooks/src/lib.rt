@@ -1,8 +1,7 @@
-// What the pass asks of a module as it was loaded: a function's hooks, the identifiers used in JSX, components, whether a reset is forced.
+// What the pass asks of a module as it was loaded: a function's hooks, the identifiers used in JSX, components.
 mod hook;
 mod jsx;
 mod persist;
-mod reset;
 mod util;
 
 pub use hook::Hook;
@@ -11,5 +10,4 @@ pub use hook::collect_hooks;
 pub use jsx::collect_ident_in_jsx;
 pub use persist::Persist;
 pub use persist::persistent;
-pub use reset::is_forced;
 pub use util::last_part;

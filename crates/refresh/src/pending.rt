@@ -10,11 +10,11 @@ use tables::Kind;
 use tables::List;
 use tables::Module;
 use tables::Node;
-use tables::Step;
-use tables::Visitor;
 use tables::narrow;
 use tables::node_at;
-use tables::walk;
+use walk::Step;
+use walk::Visitor;
+use walk::walk;
 
 #[derive(Drop)]
 struct Pending<'p, 'l, 'f, 'g> {

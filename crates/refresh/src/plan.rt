@@ -13,11 +13,11 @@ use tables::List;
 use tables::Module;
 use tables::Node;
 use tables::Place;
-use tables::Step;
-use tables::Visitor;
 use tables::Word;
 use tables::narrow;
-use tables::walk;
+use walk::Step;
+use walk::Visitor;
+use walk::walk;
 
 #[derive(Clone, Copy)]
 pub struct Component {

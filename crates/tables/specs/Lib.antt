@@ -2,9 +2,4 @@ pub mod Faults
 pub mod Lists
 pub mod Text
 pub mod Modules
-pub mod Calls
-pub mod Trees
-pub mod Shown
-pub mod Turns
-pub mod Logs
 pub mod Sizes

@@ -1,4 +1,4 @@
-// The records that all layers share: nodes and their kinds, spans, text places, refusals, the bounded list over lent memory, the walk.
+// The records that all layers share: nodes and their kinds, spans, text places, refusals, the bounded list over lent memory.
 mod fault;
 mod kind;
 mod list;
@@ -6,7 +6,6 @@ mod module;
 mod node;
 mod sizes;
 mod text;
-mod visit;
 
 pub use fault::Fault;
 pub use fault::FaultFromFull;
@@ -31,6 +30,3 @@ pub use text::all_name_chars;
 pub use text::class_of;
 pub use text::is_name;
 pub use text::same;
-pub use visit::Step;
-pub use visit::Visitor;
-pub use visit::walk;

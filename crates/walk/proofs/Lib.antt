@@ -1,0 +1,3 @@
+pub mod Stacked
+pub mod Rounds
+pub mod Logged
