@@ -1,4 +1,5 @@
 // The steps in tables that are made once and lent.
+use crate::steps::Call;
 use crate::steps::Done;
 use crate::steps::Stop;
 use crate::steps::instrument;
@@ -9,6 +10,7 @@ use input::Settings;
 use refresh::HookRegister;
 use refresh::Plan;
 use refresh::Registration;
+use tables::Fault;
 use tables::Node;
 
 // The most nodes that tables may be for, and their bytes of text.
@@ -16,7 +18,7 @@ const N: usize = 8192;
 
 const TEXT: usize = 49152;
 
-// Loads, notes, runs and prints over tables for `n` nodes, at most 8,192. `scratch` has room for the longest text of a note.
+// Loads, notes, runs and prints over tables for `n` nodes; more than 8,192 is too large. `scratch` has room for the longest text of a note.
 pub fn instrument_in_tables(
     form: &[u8],
     source: &[u8],
@@ -26,7 +28,9 @@ pub fn instrument_in_tables(
     scratch: &mut [u8],
     out: &mut [u8],
 ) -> Result<Done, Stop> {
-    let n = n.min(N);
+    if n > N {
+        return Err(Stop::Refused(Call::Load, Fault::TooLarge));
+    }
     let mut nodes = [Node::VOID; N];
     let mut text = [0u8; TEXT];
     let mut stack = [0u16; N];

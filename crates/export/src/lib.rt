@@ -11,7 +11,7 @@ use input::read_settings;
 // Longer than the texts of all notes that a store takes.
 const LINE: usize = 65536;
 
-// Instruments a module over tables for `n` nodes, at most 8,192. Notes and options are the texts of their files. A bad line of options has
+// Instruments a module over tables for `n` nodes. Notes and options are the texts of their files. A bad line of options has
 // number 0 and the line for its place.
 #[unsafe(no_mangle)]
 pub extern "C" fn hufalimpy_instrument(

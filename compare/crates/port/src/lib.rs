@@ -63,6 +63,8 @@ const ROOM: usize = 393_216;
 /// Refusals stand above all lengths: this, and 2^48 for each number, and the place.
 const REFUSED: u64 = 1 << 63;
 const NUMBER: u64 = 1 << 48;
+/// The largest number that a line of notes writes.
+const LAST: u64 = 999_999_999;
 
 pub struct Hufalimpy {
     out: Vec<u8>,
@@ -141,6 +143,13 @@ impl Port for Hufalimpy {
     }
 
     fn instrument(&mut self, form: &[u8], source: &[u8], notes: &[Note], options: &Options) -> Result<String, (u32, u64)> {
+        // A position that a line of notes cannot write is no position of any
+        // source: what stands before it is asked of the port, the rest is 6.
+        if let Some(at) = notes.iter().position(|note| note.position > LAST || note.side > LAST) {
+            let off = Options { dev: false, given: false, ..options.clone() };
+            self.call(form, source, &note_lines(&notes[..at]), &option_lines(&off), options.nodes)?;
+            return Err((6, notes[at].position));
+        }
         let n = self.call(form, source, &note_lines(notes), &option_lines(options), options.nodes)?;
         Ok(String::from_utf8_lossy(&self.out[..n]).into_owned())
     }
