@@ -1,4 +1,6 @@
 // Runs a table of cases, read from standard input, and writes what came of each.
+#![tactic(auto)]
+
 mod answer;
 mod case;
 

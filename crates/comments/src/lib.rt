@@ -1,4 +1,6 @@
 // A store of comments: each note has a side, a position and a text, and an ask looks for bytes in the notes of one side and position.
+#![tactic(auto)]
+
 ghost use Rattle.std.specs.Prelude.{◌≡◌, List, []};
 ghost use Rattle.comments.specs.Notes.{Note, a_note, noted, noted_answer, told};
 

@@ -1,4 +1,6 @@
 // One module from its files to its instrumented text: load, notes, run, print, in tables that the program lends.
+#![tactic(auto)]
+
 mod in_tables;
 mod steps;
 

@@ -1,4 +1,6 @@
 // Functions for programs in C or Rust: a module from its texts to its instrumented text, whole or step by step.
+#![tactic(auto)]
+
 mod answer;
 mod steps;
 

@@ -1,4 +1,6 @@
 // The grammar of the text form: the words of kinds, what a form of a kind says, which parts it has.
+#![tactic(auto)]
+
 mod group;
 mod label;
 mod laws;

@@ -1,4 +1,6 @@
 // What the pass asks of a module as it was loaded: a function's hooks, the identifiers used in JSX, components.
+#![tactic(auto)]
+
 mod hook;
 mod jsx;
 mod persist;

@@ -1,4 +1,6 @@
 // Instruments one module: `hufalimpy [FORM SOURCE]`. The module goes to standard output, one line on what was done to standard error.
+#![tactic(auto)]
+
 mod message;
 
 use anyhow::anyhow;

@@ -1,4 +1,6 @@
 // The files beside a module that the programs read: notes and options.
+#![tactic(auto)]
+
 mod line;
 mod notes;
 mod options;

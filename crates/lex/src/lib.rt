@@ -1,4 +1,6 @@
 // Reads tokens and numbers, and writes bytes and numbers.
+#![tactic(auto)]
+
 mod number;
 mod put;
 mod scan;

@@ -1,4 +1,6 @@
 // Names that decide what the pass does: hooks and components.
+#![tactic(auto)]
+
 mod hook;
 mod util;
 

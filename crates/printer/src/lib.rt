@@ -1,4 +1,6 @@
 // The printer: writes a module in the text form.
+#![tactic(auto)]
+
 mod forms;
 mod laws;
 mod pieces;

@@ -1,4 +1,6 @@
 // The pass: instruments a module for Fast Refresh.
+#![tactic(auto)]
+
 mod instrument;
 mod options;
 mod output;

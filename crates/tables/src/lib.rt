@@ -1,4 +1,6 @@
 // The records that all layers share: nodes and their kinds, spans, text places, refusals, the bounded list over lent memory.
+#![tactic(auto)]
+
 mod fault;
 mod kind;
 mod list;
