@@ -1,8 +1,7 @@
 -- A list whose elements are the first n of the memory xs: what the bounded list's calls do to `take n xs`.
-use Rattle.std.proofs.Common.{◌≡◌, ℕ, zero, suc, ◌+◌, ◌-◌, ◌<◌, ◌≤◌, min, List, [], ◌∷◌, ◌++◌, length, take, set, sym, refl, ap, ◌∙◌, arith}
-use lib.Seq.{take-set-lt}
+use Rattle.std.proofs.Common.{◌≡◌, ℕ, zero, suc, ◌+◌, ◌-◌, ◌<◌, ◌≤◌, List, [], ◌∷◌, ◌++◌, length, take, set, sym, refl, ap, ◌∙◌, arith}
 use Rattle.std.specs.List.{slice_get}
-use Rattle.std.proofs.lemmas.List.{length-take, take_all, take-take, take_more_set, set_past}
+use Rattle.std.proofs.lemmas.List.{length-take, take_all, take-take, take_more_set}
 use Rattle.std.proofs.lemmas.Option.{slice_get_past}
 
 pub nth_take : {X : Type 0} (n i : ℕ) (xs : List X) → i < n → slice_get (take n xs) i ≡ slice_get xs i

@@ -1,5 +1,5 @@
 -- What a bounded list holds.
-use Rattle.std.specs.Prelude.{◌≡◌, ℕ, ◌-◌, Bool, cond, List, length, take, Ok, Err, Option, Result, nat_lt}
+use Rattle.std.specs.Prelude.{ℕ, ◌-◌, Bool, cond, List, length, take, Ok, Err, Option, Result, nat_lt}
 use Rattle.std.specs.List.{slice_get}
 use Rattle.tables.specs.declared.list.List.{List as Bounded}
 use Rattle.tables.specs.declared.list.Full.{Full}

@@ -1,5 +1,5 @@
 -- Reading a module in its tables.
-use Rattle.std.specs.Prelude.{ℕ, ◌+◌, ◌-◌, ◌^◌, min, max, Bool, cond, not, ◌&&◌, ◌||◌, List, [], length, take, drop, ◌==◌, nat_le, slice_index_or}
+use Rattle.std.specs.Prelude.{ℕ, ◌+◌, ◌-◌, ◌^◌, min, max, Bool, cond, not, ◌&&◌, List, [], length, take, drop, ◌==◌, nat_le, slice_index_or}
 use Rattle.std.specs.Str.{bytes_eq}
 use Rattle.tables.specs.declared.node.Node.{Node}
 use Rattle.tables.specs.declared.node.Place.{Place}

@@ -1,7 +1,7 @@
-use Rattle.std.proofs.Common.{◌≡◌, ◌<◌, Bool, true, cond, ltb, [], ◌∷◌, ◌++◌, length, take, Ok, Err, sym, refl, ap, ◌∙◌, subst, rules}
+use Rattle.std.proofs.Common.{◌≡◌, ◌<◌, true, cond, ltb, [], ◌∷◌, ◌++◌, length, take, Ok, Err, sym, ap, ◌∙◌}
 use Rattle.std.proofs.lemmas.List.{length-set}
 use Rattle.std.proofs.lemmas.Bool.{lt-ltb}
-use Rattle.tables.specs.Lists.{takes, contents}
+use Rattle.tables.specs.Lists.{takes}
 use Rattle.tables.proofs.Bounded.{pushed}
 use Rattle.tables.proofs.list.List.push.Goals as goal
 
