@@ -1,6 +1,6 @@
 -- All tokens of a text, each with its place.
-use Rattle.std.specs.Prelude.{◌≡◌, ℕ, zero, suc, ◌+◌, ◌<◌, true, List, [], ◌∷◌, ◌++◌, length, drop}
-use Rattle.lex.specs.Tokens.{Tok, opens, closes, blank, feed, run, end, foul, first, size, lawful}
+use Rattle.std.specs.Prelude.{ℕ, zero, suc, ◌+◌, List, [], ◌∷◌, ◌++◌, length, drop}
+use Rattle.lex.specs.Tokens.{Tok, opens, closes, blank, feed, run, end, foul, first, size}
 
 -- a text has no tokens after its end, nor after a foul one
 abbrev pub then : Tok → List (ℕ × Tok) → List (ℕ × Tok)

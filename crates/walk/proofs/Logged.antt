@@ -1,5 +1,5 @@
 -- Laws of the walk for those who use it: what stays, what is logged, and when there is no room.
-use Rattle.std.proofs.Common.{◌≡◌, ℕ, suc, ◌+◌, ◌<◌, ◌≤◌, max, List, [], ◌++◌, length, Some, Ok, Err, Option, Result, sym, refl, ap, ◌∙◌, subst, arith}
+use Rattle.std.proofs.Common.{◌≡◌, ℕ, suc, ◌+◌, ◌<◌, ◌≤◌, List, ◌++◌, length, Some, Ok, Err, Option, Result, sym, refl, ap, ◌∙◌, subst, arith}
 use Rattle.std.proofs.lemmas.List.{append-nil, append_assoc}
 use Rattle.tables.specs.declared.fault.Fault.{Fault}
 use Rattle.tables.specs.declared.fault.Fault.TheVariants.{TooLarge}
@@ -7,7 +7,7 @@ use Rattle.tables.specs.declared.node.Node.{Node}
 use Rattle.walk.specs.declared.visit.Step.{Step}
 use Rattle.walk.specs.declared.visit.Step.TheVariants.{Into, Past}
 use Rattle.walk.specs.Calls.{Enters, Leaves}
-use Rattle.walk.specs.Trees.{Tree, node, Forest, nil, cons, flat}
+use Rattle.walk.specs.Trees.{Tree, Forest, flat}
 use Rattle.walk.specs.Shown.{Shown, Showns, refused, past, large, below, whole, none, stops, goes, Went, still, comes, parts}
 use Rattle.walk.specs.Logs.{inside, log, logs, counts, most, mosts}
 

@@ -1,14 +1,13 @@
 -- The walk shows trees: at each turn, what is left to show completes what was shown.
-use Rattle.std.proofs.Common.{◌≡◌, ℕ, suc, ◌+◌, ◌-◌, ◌^◌, ◌<◌, ◌≤◌, min, max, List, [], ◌∷◌, ◌++◌, length, get_or, drop, Some, None, Ok, Err, Option, Result, sym, refl, ap, ◌∙◌, subst, arith}
+use Rattle.std.proofs.Common.{◌≡◌, ℕ, suc, ◌+◌, ◌-◌, ◌^◌, ◌<◌, ◌≤◌, min, List, [], ◌∷◌, ◌++◌, length, drop, Some, None, Ok, Err, Option, Result, sym, refl, ap, ◌∙◌, subst, arith}
 use Rattle.std.proofs.lemmas.List.{drop_more, length-drop, length-append, length_push, append_assoc, drop_at, drop-drop, same_from_push}
 use Rattle.tables.specs.declared.fault.Fault.{Fault}
 use Rattle.tables.specs.declared.fault.Fault.TheVariants.{TooLarge}
 use Rattle.tables.specs.declared.node.Node.{Node}
-use Rattle.walk.specs.declared.visit.Step.{Step}
 use Rattle.walk.specs.declared.visit.Step.TheVariants.{Into, Past}
 use Rattle.walk.specs.Calls.{Enters, Leaves}
 use Rattle.tables.specs.Modules.{void, node_at, next_at}
-use Rattle.walk.specs.Trees.{Label, Tree, node, Forest, nil, cons, over, flat, flats}
+use Rattle.walk.specs.Trees.{Label, Tree, node, Forest, nil, cons, flat, flats}
 use Rattle.walk.specs.Shown as shown
 use Rattle.walk.specs.Shown.{Shown, Showns, Went}
 use Rattle.walk.specs.Turns as turns

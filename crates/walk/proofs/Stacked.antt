@@ -7,7 +7,6 @@ use Rattle.std.proofs.lemmas.Result.{err_from_is_err_and}
 use Rattle.std.proofs.lemmas.Bool.{ltb-true, ltb-false}
 use Rattle.tables.specs.declared.list.Full.{Full}
 use Rattle.tables.specs.declared.list.List.{List as Bounded}
-use Rattle.tables.specs.declared.fault.Fault.{Fault}
 use Rattle.tables.specs.declared.node.Node.{Node}
 use Rattle.walk.specs.declared.visit.Step.{Step}
 use Rattle.walk.specs.declared.visit.Step.TheVariants.{Into, Past}

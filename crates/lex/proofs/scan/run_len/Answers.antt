@@ -3,8 +3,8 @@ use Rattle.std.proofs.lemmas.List.Sums.{prefix_len-drop_yes, prefix_len-drop_no,
 use Rattle.lex.specs.Tokens.{solid}
 use Rattle.lex.proofs.scan.run_len.Goals as goal
 
-pub returns-then-not-is-solid : goal.returns-then-not-is-solid
-returns-then-not-is-solid c = search (rules, prefix_len-drop_no solid)
+pub returns-then-not-is_solid : goal.returns-then-not-is_solid
+returns-then-not-is_solid c = search (rules, prefix_len-drop_no solid)
 
 pub loop-b-preserved : goal.loop-b-preserved
 loop-b-preserved c = search (rules, prefix_len-drop_yes solid)

@@ -1,4 +1,4 @@
-use Rattle.std.proofs.Common.{[], get_or, sym, refl, ap, arith}
+use Rattle.std.proofs.Common.{[], get_or, sym, ap, arith}
 use Rattle.std.proofs.lemmas.List.{get_or_past}
 use Rattle.names.specs.Names.{builtins}
 use Rattle.names.proofs.util.builtin_hook.Goals as goal
@@ -43,6 +43,6 @@ pub returns-in-9 : goal.returns-in-9
 unfolding builtins
 returns-in-9 c = ap (λ k. get_or builtins k []) (sym c.in-9.is)
 
-pub returns-in-default : goal.returns-in-default
+pub returns-in_default : goal.returns-in_default
 unfolding builtins
-returns-in-default c = sym (get_or_past builtins c.args.i [] (omega arith))
+returns-in_default c = sym (get_or_past builtins c.args.i [] (omega arith))

@@ -11,13 +11,13 @@ ten = refl
 pub returns-then-same : goal.returns-then-same
 returns-then-same c =
     let n = c.args.name.now in
-    let e : bytes_eq n (get_or builtins c.loop-i.i []) ≡ _ = ap (bytes_eq n) (sym c.builtin-hook.ensures) ∙ sym c.if-same.ensures in
+    let e : bytes_eq n (get_or builtins c.loop-i.i []) ≡ _ = ap (bytes_eq n) (sym c.builtin_hook.ensures) ∙ sym c.if-same.ensures in
     sym (found n builtins c.loop-i.i (omega (arith, ten)) e) ∙ c.loop-i.invariant
 
 pub loop-i-preserved : goal.loop-i-preserved
 loop-i-preserved c =
     let n = c.args.name.now in
-    let e : bytes_eq n (get_or builtins c.loop-i.i []) ≡ _ = ap (bytes_eq n) (sym c.builtin-hook.ensures) ∙ sym c.if-same.ensures in
+    let e : bytes_eq n (get_or builtins c.loop-i.i []) ≡ _ = ap (bytes_eq n) (sym c.builtin_hook.ensures) ∙ sym c.if-same.ensures in
     sym (further n builtins c.loop-i.i (omega (arith, ten)) e) ∙ c.loop-i.invariant
 
 pub returns : goal.returns

@@ -27,20 +27,20 @@ loop-top-preserved g c =
     let all = contents c.loop-top.open in (
       c.pop.ensures.room ∙ c.loop-top.invariant.0,
       λ a held s h.
-          c.loop-top.invariant.1 _ _ _ (goes (take (length all - 1) all) c.in-Some.top (last_some all c.in-Some.top c.in-Some.ensures) (leb-true _ c.args.at (sym c.ended.ensures ∙ c.if-not-ended.false)) c.in-ok-leave.ensures (subst (λ xs. Closed g.V.Visitor.leaving c.args.nodes.now c.args.at xs c.leave.new.self a held s) c.pop.ensures.holds h)),
+          c.loop-top.invariant.1 _ _ _ (goes (take (length all - 1) all) c.in-Some.top (last_some all c.in-Some.top c.in-Some.ensures) (leb-true _ c.args.at (sym c.ended.ensures ∙ c.if-not-ended.false)) c.in_ok-leave.ensures (subst (λ xs. Closed g.V.Visitor.leaving c.args.nodes.now c.args.at xs c.leave.new.self a held s) c.pop.ensures.holds h)),
     )
 
-pub returns-in-err-leave : goal.returns-in-err-leave
-returns-in-err-leave g c =
+pub returns-in_err-leave : goal.returns-in_err-leave
+returns-in_err-leave g c =
     let all = contents c.loop-top.open in
     record {
-      does = rw (handed_on c.from-residual.result _ c.from-residual.ensures.1, c.pop.ensures.holds) (c.loop-top.invariant.1 _ _ _ (refused (take (length all - 1) all) c.in-Some.top (last_some all c.in-Some.top c.in-Some.ensures) (leb-true _ c.args.at (sym c.ended.ensures ∙ c.if-not-ended.false)) c.in-err-leave.ensures));
+      does = rw (handed_on c.from_residual.result _ c.from_residual.ensures.1, c.pop.ensures.holds) (c.loop-top.invariant.1 _ _ _ (refused (take (length all - 1) all) c.in-Some.top (last_some all c.in-Some.top c.in-Some.ensures) (leb-true _ c.args.at (sym c.ended.ensures ∙ c.if-not-ended.false)) c.in_err-leave.ensures));
       room = c.pop.ensures.room ∙ c.loop-top.invariant.0;
     }
 
 pub returns : goal.returns
 returns g c =
     record {
-      does = c.loop-top.invariant.1 _ _ _ (empty (last_none (contents c.loop-top.open) c.in-default.ensures));
+      does = c.loop-top.invariant.1 _ _ _ (empty (last_none (contents c.loop-top.open) c.in_default.ensures));
       room = c.loop-top.invariant.0;
     }

@@ -11,5 +11,5 @@ returns-after-notes c = asked_end c.notes.invariant c.notes-test.false
 pub returns-then-answers : goal.returns-then-answers
 returns-then-answers c = asked_found c.notes.invariant c.notes-test.true c.answers.ensures c.if-answers.true
 
-pub returns-then-is-after : goal.returns-then-is-after
-returns-then-is-after c = asked-later c.args.self.now.table c.args.self.now.order c.notes.invariant c.notes-test.true c.is-after.ensures c.if-is-after.true
+pub returns-then-is_after : goal.returns-then-is_after
+returns-then-is_after c = asked-later c.args.self.now.table c.args.self.now.order c.notes.invariant c.notes-test.true c.is_after.ensures c.if-is_after.true

@@ -3,47 +3,37 @@ use Rattle.std.proofs.lemmas.Bool.{cond-true, cond-false}
 use Rattle.comments.proofs.Rows.{length-held, room_there, no_room, sum_more, positions-more, within_more, held_more}
 use Rattle.comments.proofs.table.Table.insert.Goals as goal
 
-pub returns-then-not-has-room : goal.returns-then-not-has-room
-returns-then-not-has-room c =
-    let off = no_room c.args.self.now (length c.args.text.now) c.has-room.result c.has-room.ensures c.if-not-has-room.true in
+pub returns-then-not-has_room : goal.returns-then-not-has_room
+returns-then-not-has_room c =
+    let off = no_room c.args.self.now (length c.args.text.now) c.has_room.result c.has_room.ensures c.if-not-has_room.true in
     record { answer = sym (cond-false _ _ _ off); holds = sym (cond-false _ _ _ off); positions = sym (cond-false _ _ _ off) }
 
-pub invariant-of-self : goal.invariant-of-self
-invariant-of-self c =
+pub invariant_of-self : goal.invariant_of-self
+invariant_of-self c =
     let t = c.args.self.now in
-    let new = c.insert-record.new.records in
-    let rows = c.insert-record.ensures in
-    let spare = c.has-room.ensures.0 c.if-not-has-room.false in
-    let same : length new ≡ length t.records = c.insert-record.auto.records in
-    let few : t.count < length new = omega (arith, t.places, spare.0) in (
-      same ∙ t.places,
-      (
-        c.write-text.auto.bytes ∙ t.area,
-        (
-          omega (arith, spare.0),
-          (
-            spare.1,
-            (
-              sum_more t new c.args.at c.args.side c.args.position c.args.text.now rows,
-              (
-                within_more t new c.args.at c.args.side c.args.position c.args.text.now rows few,
-                tt,
-              ),
-            ),
-          ),
-        ),
-      ),
-    )
+    let new = c.insert_record.new.records in
+    let rows = c.insert_record.ensures in
+    let spare = c.has_room.ensures.0 c.if-not-has_room.false in
+    let same : length new ≡ length t.records = c.insert_record.auto.records in
+    let few : t.count < length new = omega (arith, t.places, spare.0) in
+    record {
+      places = same ∙ t.places;
+      area = c.write_text.auto.bytes ∙ t.area;
+      few = omega (arith, spare.0);
+      short = spare.1;
+      sum = sum_more t new c.args.at c.args.side c.args.position c.args.text.now rows;
+      within = within_more t new c.args.at c.args.side c.args.position c.args.text.now rows few;
+    }
 
 pub returns : goal.returns
 returns c =
     let t = c.args.self.now in
     let put = c.args.text.now in
-    let new = c.insert-record.new.records in
-    let rows = c.insert-record.ensures in
-    let on = room_there t (length put) (c.has-room.ensures.0 c.if-not-has-room.false) in
+    let new = c.insert_record.new.records in
+    let rows = c.insert_record.ensures in
+    let on = room_there t (length put) (c.has_room.ensures.0 c.if-not-has_room.false) in
     record {
       answer = ap (λ k. Ok (k + 1)) (sym (length-held t)) ∙ sym (cond-true _ _ _ on);
-      holds = held_more t new c.args.at c.args.side c.args.position put rows c.write-text.new.bytes c.write-text.ensures ∙ sym (cond-true _ _ _ on);
+      holds = held_more t new c.args.at c.args.side c.args.position put rows c.write_text.new.bytes c.write_text.ensures ∙ sym (cond-true _ _ _ on);
       positions = positions-more t new c.args.at c.args.side c.args.position put rows ∙ sym (cond-true _ _ _ on);
     }
