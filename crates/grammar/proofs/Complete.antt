@@ -1,5 +1,5 @@
 -- What the table of parts allows is allowed by the reader's states.
-use Rattle.std.proofs.Common.{◌≡◌, ℕ, Bool, true, cond, ◌⊎◌, List, [], ◌∷◌, Some, sym, refl, ap, ◌∙◌, subst, inl, inr, arith}
+use Rattle.std.proofs.Common.{◌≡◌, ℕ, true, cond, ◌⊎◌, List, [], ◌∷◌, Some, sym, refl, ap, ◌∙◌, subst, inl, inr, arith}
 use mathlib.Core.Bool.{false≢true}
 use Rattle.tables.specs.declared.kind.Kind.{Kind}
 use Rattle.grammar.specs.declared.group.Group.{Group}

@@ -176,8 +176,8 @@ module _ (limit : ℕ) where
   ends Rest.Defaulted h = follow Rest.Defaulted (follows Rest.Defaulted refl) (follow Rest.Expr (follows Rest.Expr refl) (stop Rest.Done refl))
   ends Rest.Declared h = follow Rest.Declared (follows Rest.Declared refl) (stop Rest.MaybeExpr refl)
 
-pub goes_on : GoesOn
-goes_on = follows
+pub goes_on_lem : GoesOn
+goes_on_lem = follows
 
 pub completable : Completable
 completable = ends

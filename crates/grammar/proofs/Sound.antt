@@ -7,7 +7,7 @@ use Rattle.grammar.specs.declared.group.Sort.{Sort}
 use Rattle.grammar.specs.declared.rest.Rest.{Rest}
 use Rattle.grammar.specs.Groups.{belongs, same_group}
 use Rattle.grammar.specs.Forms.{Form, form, Forms, nil, cons}
-use Rattle.grammar.specs.Parts.{Proper, one, many, parts, Good, good, Fit, none, first, missing, present, last, more}
+use Rattle.grammar.specs.Parts.{Proper, many, Good, good, Fit, none, first, missing, present, last, more}
 use Rattle.grammar.specs.Rests.{when, params_part, arrow_part, attrs_part, after, inside, closes}
 use Rattle.grammar.specs.Readings.{opening, Formed, formed, Reads, Items, end, item}
 use Rattle.grammar.specs.Laws.{Sound}

@@ -1,5 +1,5 @@
 -- A module as a tree of forms, and the text that is printed of it.
-use Rattle.std.specs.Prelude.{ℕ, suc, ◌+◌, cond, List, [], ◌∷◌, ◌++◌, length, decimal, ◌==◌}
+use Rattle.std.specs.Prelude.{ℕ, suc, ◌+◌, cond, List, [], ◌∷◌, ◌++◌, decimal, ◌==◌}
 use Rattle.tables.specs.declared.kind.Kind.{Kind}
 use Rattle.tables.specs.declared.kind.Word.{Word}
 use Rattle.tables.specs.declared.node.Span.{Span}

@@ -1,5 +1,5 @@
 -- A visitor that goes into every node and notes whether some node passes a test: what it has noted after a walk.
-use Rattle.std.proofs.Common.{◌≡◌, ℕ, ◌+◌, Bool, true, false, ◌||◌, List, [], ◌∷◌, ◌++◌, length, get_or, drop, Ok, Err, Option, Result, sym, refl, ap, ◌∙◌, append_assoc, add-zero, arith}
+use Rattle.std.proofs.Common.{◌≡◌, ℕ, ◌+◌, Bool, true, false, ◌||◌, List, [], ◌∷◌, ◌++◌, length, get_or, drop, Ok, Option, Result, sym, refl, ap, ◌∙◌, append_assoc, add-zero, arith}
 use Rattle.std.proofs.lemmas.List.{get_or-drop, drop-drop, drop_at}
 use Rattle.tables.specs.declared.fault.Fault.{Fault}
 use Rattle.tables.specs.declared.node.Node.{Node}
@@ -8,7 +8,7 @@ use Rattle.walk.specs.declared.visit.Step.TheVariants.{Into, Past}
 use Rattle.walk.specs.Calls.{Enters, Leaves}
 use Rattle.tables.specs.Modules.{node_at, void}
 use Rattle.walk.specs.Shown.{Shown, Showns, past, whole, none, goes}
-use Rattle.walk.specs.Trees.{Tree, node, Forest, nil, cons, flat, flats}
+use Rattle.walk.specs.Trees.{Tree, Forest, flat, flats}
 use Rattle.reset.specs.Resets.{any}
 
 or_assoc : (a b c : Bool) → ((a || b) || c) ≡ (a || (b || c))

@@ -17,7 +17,7 @@ struct Reset<'c, C: Comments> {
 
 // A leading note at hi - 1 or lo, or a trailing note at lo or hi; a dummy span asks nothing.
 fn asks<C: Comments>(comments: &C, span: Span) -> bool
-    ensures { result ≡ asked (notes comments.now) span }
+    ensures { result ≡ asked (C.notes comments.now) span }
 {
     let needle = b"@refresh reset";
     span.hi != 0
@@ -28,7 +28,7 @@ fn asks<C: Comments>(comments: &C, span: Span) -> bool
 }
 
 impl<C: Comments> Visitor for Reset<'_, C> {
-    ghost entering = { λ s nodes at above r s'. (r ≡ Ok Into) × (s'.comments.now ≡ s.comments.now) × (s'.forced ≡ (s.forced || asked (notes s.comments.now) (node_at nodes at).span)) };
+    ghost entering = { λ s nodes at above r s'. (r ≡ Ok Into) × (s'.comments.now ≡ s.comments.now) × (s'.forced ≡ (s.forced || asked (C.notes s.comments.now) (node_at nodes at).span)) };
 
     ghost leaving = { λ s nodes at r s'. (r ≡ Ok tt) × (s' ≡ s) };
 
@@ -50,7 +50,7 @@ pub fn is_forced<C: Comments>(
     nodes: &[Node],
     open: &mut List<u16>,
 ) -> Result<bool, Fault>
-    ensures { Forced (notes comments.now) nodes.now (room «open».old) result }
+    ensures { Forced (C.notes comments.now) nodes.now (room «open».old) result }
 {
     let mut visitor = Reset {
         comments,

@@ -31,8 +31,8 @@ pub fn note<C: Comments>(
     position: u32,
     text: &[u8],
 ) -> Result<usize, Fault>
-    ensures answer { result ≡ note_answer (length source.now) (notes comments.old) side position text.now }
-    ensures holds { notes comments.new ≡ notes_after (length source.now) (notes comments.old) side position text.now }
+    ensures answer { result ≡ note_answer (length source.now) (C.notes comments.old) side position text.now }
+    ensures holds { C.notes comments.new ≡ notes_after (length source.now) (C.notes comments.old) side position text.now }
 {
     if !is_placed(source, side, position) {
         return Err(Fault::BadPosition(position));

@@ -13,7 +13,7 @@ returns-then-same c =
     let bs = c.args.run.now in
     let k = get_or all i Kind.Module in
     let step : named (drop i all) bs ≡ cond (bytes_eq bs (word_of k)) (Some k) (named (drop (i + 1) all) bs) = at_drop_more (λ ks. named ks bs) all i Kind.Module c.loop-kind-test.true in
-    ap (λ b. cond b (Some k) (named (drop (i + 1) all) bs)) (c.if-same.ensures ∙ ap (bytes_eq bs) c.kind-word.ensures) ∙ sym step ∙ c.loop-kind.invariant ∙ ap (λ ks. named ks bs) c.kinds-all.ensures
+    ap (λ b. cond b (Some k) (named (drop (i + 1) all) bs)) (c.if-same.ensures ∙ ap (bytes_eq bs) c.kind_word.ensures) ∙ sym step ∙ c.loop-kind.invariant ∙ ap (λ ks. named ks bs) c.kinds-all.ensures
 
 pub loop-kind-preserved : goal.loop-kind-preserved
 loop-kind-preserved c =
@@ -22,7 +22,7 @@ loop-kind-preserved c =
     let bs = c.args.run.now in
     let k = get_or all i Kind.Module in
     let step : named (drop i all) bs ≡ cond (bytes_eq bs (word_of k)) (Some k) (named (drop (i + 1) all) bs) = at_drop_more (λ ks. named ks bs) all i Kind.Module c.loop-kind-test.true in
-    ap (λ b. cond b (Some k) (named (drop (i + 1) all) bs)) (c.if-same.ensures ∙ ap (bytes_eq bs) c.kind-word.ensures) ∙ sym step ∙ c.loop-kind.invariant
+    ap (λ b. cond b (Some k) (named (drop (i + 1) all) bs)) (c.if-same.ensures ∙ ap (bytes_eq bs) c.kind_word.ensures) ∙ sym step ∙ c.loop-kind.invariant
 
 pub returns : goal.returns
 unfolding kind_of

@@ -1,4 +1,4 @@
-use Rattle.std.proofs.Common.{◌≡◌, ◌||◌, [], length, Ok, sym, refl, ap, ◌∙◌, arith}
+use Rattle.std.proofs.Common.{◌≡◌, ◌||◌, [], length, sym, refl, ap, ◌∙◌, arith}
 use Rattle.std.proofs.lemmas.List.{append-nil}
 use Rattle.std.proofs.lemmas.Result.{err_from_is_err_and}
 use Rattle.tables.specs.Modules.{node_at}
@@ -9,15 +9,15 @@ use Rattle.reset.specs.Resets.{asked, any}
 use Rattle.reset.proofs.Tested.{tested}
 use Rattle.reset.proofs.forced.is_forced.Goals as goal
 
-pub returns-in-err-walk : goal.returns-in-err-walk
-returns-in-err-walk g c = λ f e small.
-    let p = err_from_is_err_and c.from-residual.result c.from-residual.ensures.1 in
-    let sh = c.in-err-walk.ensures.shown f [] (e ∙ sym (append-nil (flats f))) (omega (arith, ap length e)) small in
+pub returns-in_err-walk : goal.returns-in_err-walk
+returns-in_err-walk g c = λ f e small.
+    let p = err_from_is_err_and c.from_residual.result c.from_residual.ensures.1 in
+    let sh = c.in_err-walk.ensures.shown f [] (e ∙ sym (append-nil (flats f))) (omega (arith, ap length e)) small in
     rw (p.1, p.2) (let h = full _ _ _ _ (λ _ _. Into) (record { answers = λ x. x.0; ends = λ x. x.0 }) sh in (h.0, omega (arith, h.1)))
 
 pub returns : goal.returns
 returns g c = λ f e small.
-    let sh = c.in-ok-walk.ensures.shown f [] (e ∙ sym (append-nil (flats f))) (omega (arith, ap length e)) small in
+    let sh = c.in_ok-walk.ensures.shown f [] (e ∙ sym (append-nil (flats f))) (omega (arith, ap length e)) small in
     let ns = g.C.Comments.notes c.args.comments.now in
     let p = tested (λ s. s.comments.now ≡ c.args.comments.now) (λ s. s.forced) (λ n. asked ns n.span) (record {
       into = λ x. x.0;
