@@ -1,12 +1,11 @@
 -- The automaton from one token of a text to the next.
-use Rattle.std.proofs.Common.{◌≡◌, ℕ, ◌+◌, ◌<◌, List, [], ◌∷◌, length, drop, sym, refl, ap, ◌∙◌, subst, arith}
+use Rattle.std.proofs.Common.{◌≡◌, ℕ, ◌+◌, ◌<◌, List, ◌∷◌, length, drop, sym, refl, ap, ◌∙◌, subst, arith}
 use Rattle.tables.specs.declared.fault.Fault.{Fault}
 use Rattle.lex.specs.Tokens.{Tok, opens, closes, blank, feed, run, end, foul, size, token_at}
 use Rattle.lex.specs.Texts.{then, tokens}
 use Rattle.lex.proofs.Texts.{tokens_at}
-use Rattle.reader.specs.declared.mode.Field.{Field}
 use Rattle.reader.specs.declared.mode.Mode.{Mode}
-use Rattle.reader.specs.Machine.{State, Step, go, done, stop, step, step_by, Outcome, accepted, refused, onward, goes}
+use Rattle.reader.specs.Machine.{State, go, done, stop, step, step_by, accepted, refused, onward, goes}
 
 not_go-stop : {s : State} {f : Fault} → stop f ≡ go s → ⊥
 not_go-stop e = let z : ◌≡◌ {A = ℕ} 0 1 = cc in omega arith

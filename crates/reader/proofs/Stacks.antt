@@ -1,7 +1,7 @@
 -- A list that grows at its end, as a stack whose top comes first.
-use Rattle.std.proofs.Common.{◌≡◌, ℕ, ◌-◌, List, [], ◌∷◌, ◌++◌, reverse, length, take, Some, None, Option, sym, refl, ap, ◌∙◌, subst, arith, length-append}
+use Rattle.std.proofs.Common.{◌≡◌, ◌-◌, List, [], ◌∷◌, ◌++◌, reverse, length, take, Some, None, Option, refl, ap, ◌∙◌, subst, arith, length-append}
 use Rattle.std.specs.List.{slice_get}
-use Rattle.std.proofs.lemmas.List.{reverse-append, reverse-reverse, length-reverse, take_at}
+use Rattle.std.proofs.lemmas.List.{reverse-append, reverse-reverse, take_at}
 
 -- the top of a stack, and what is below it
 abbrev pub Tops : {X : Type 0} → List X → Option X → List X → Type 0

@@ -1,5 +1,5 @@
 -- The reader as an automaton: what it wants next, which forms are open, and what stands in the tables.
-use Rattle.std.specs.Prelude.{ℕ, ◌+◌, ◌-◌, ◌^◌, min, Bool, cond, ◌&&◌, List, [], ◌∷◌, ◌++◌, length, take, drop, Some, None, Option, ◌==◌, nat_le, nat_lt, slice_set}
+use Rattle.std.specs.Prelude.{ℕ, ◌+◌, ◌-◌, ◌^◌, min, cond, ◌&&◌, List, [], ◌∷◌, ◌++◌, length, take, drop, Some, None, Option, ◌==◌, nat_le, nat_lt, slice_set}
 use Rattle.std.specs.Str.{bytes_eq}
 use Rattle.tables.specs.Modules.{node_at, made}
 use Rattle.tables.specs.Text.{name}
@@ -8,7 +8,6 @@ use Rattle.tables.specs.declared.kind.Kind.{Kind}
 use Rattle.tables.specs.declared.kind.Word.{Word}
 use Rattle.tables.specs.declared.node.Node.{Node}
 use Rattle.tables.specs.declared.node.Place.{Place}
-use Rattle.tables.specs.declared.node.Span.{Span}
 use Rattle.lex.specs.Numbers.{number_of}
 use Rattle.lex.specs.Tokens.{Tok, opens, closes, blank, feed, run, end, foul}
 use Rattle.lex.specs.Written.{over}

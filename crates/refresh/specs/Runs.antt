@@ -1,5 +1,5 @@
 -- What a run leaves in the module's tables.
-use Rattle.std.specs.Prelude.{◌≡◌, ℕ, ◌≤◌, Bool, true, false, not, List, length, take, IfOk, Some, None, Ok, Err, Option, Result, MatchResult}
+use Rattle.std.specs.Prelude.{◌≡◌, ℕ, ◌≤◌, Bool, true, false, not, List, length, take, IfOk, Some, None, Err, Option, Result, MatchResult}
 use Rattle.tables.specs.declared.fault.Fault.{Fault}
 use Rattle.tables.specs.declared.fault.Fault.TheVariants.{BadOption}
 use Rattle.tables.specs.declared.node.Node.{Node}

@@ -5,8 +5,8 @@ use Rattle.printer.proofs.Rows.{Left, closing}
 use Rattle.printer.proofs.forms.+put_form.Given as goal
 
 -- a part has fewer nodes than its form
-abbrev pub decreases-put-form : goal.decreases-put-form
-decreases-put-form l = l.end - l.at
+abbrev pub decreases-put_form : goal.decreases-put_form
+decreases-put_form l = l.end - l.at
 
 abbrev pub invariant-loop-p : goal.invariant-loop-p
 invariant-loop-p l =

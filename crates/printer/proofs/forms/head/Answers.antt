@@ -10,28 +10,28 @@ use Rattle.printer.proofs.Bounds.{bytes-few, head_few}
 use Rattle.printer.proofs.forms.head.Goals as goal
 
 -- as the node and its name were read
-said : (c : goal.After-slice-known-6·1) → Puts (40 ∷ head (saying c.node-node.result c.name.result.now)) c.args.out.now c.label-on.new.out c.label-on.result
+said : (c : goal.After-slice_known-6-1) → Puts (40 ∷ head (saying c.node-node.result c.name.result.now)) c.args.out.now c.label_on.new.out c.label_on.result
 said c =
     let n = c.node-node.result in
     let l = label (label_of n.kind) (saying n c.name.result.now) in
     let lo = 32 ∷ decimal n.span.lo in
     let hi = 32 ∷ decimal n.span.hi in
-    let word : Adds (word_of n.kind) c.bytes-on-n.new.out c.bytes-on-n.result c.bytes-on-n-2.new.out c.bytes-on-n-2.result =
-    subst (λ w. Adds w c.bytes-on-n.new.out c.bytes-on-n.result c.bytes-on-n-2.new.out c.bytes-on-n-2.result) c.kind-word.ensures c.bytes-on-n-2.ensures in
+    let word : Adds (word_of n.kind) c.bytes_on-n.new.out c.bytes_on-n.result c.bytes_on-n-2.new.out c.bytes_on-n-2.result =
+    subst (λ w. Adds w c.bytes_on-n.new.out c.bytes_on-n.result c.bytes_on-n-2.new.out c.bytes_on-n-2.result) c.kind_word.ensures c.bytes_on-n-2.ensures in
     puts_from (40 ∷ head (saying n c.name.result.now))
-    (adds_then (40 ∷ []) (word_of n.kind ++ (lo ++ (hi ++ l))) c.bytes-on-n.ensures
+    (adds_then (40 ∷ []) (word_of n.kind ++ (lo ++ (hi ++ l))) c.bytes_on-n.ensures
     (adds_then (word_of n.kind) (lo ++ (hi ++ l)) word
-    (adds_then lo (hi ++ l) c.number-on-n.ensures
-    (adds_then hi l c.number-on-n-2.ensures c.label-on.ensures))))
+    (adds_then lo (hi ++ l) c.number_on-n.ensures
+    (adds_then hi l c.number_on-n-2.ensures c.label_on.ensures))))
 
 pub returns : goal.returns
 returns c =
     let n = c.node-node.result in
     let at = node_at c.args.m.now.nodes.now c.args.at in
     let text = c.args.m.now.text.now in
-    let place = c.node-node.type-inv.1.1.1.1.1.1.0 in
-    let counted = c.node-node.type-inv.1.1.1.1.1.1.1.0 in
-    let span = c.node-node.type-inv.1.1.1.1.1.1.1.1.0 in
+    let place = c.node-node.type_inv.1.1.1.1.1.1.0 in
+    let counted = c.node-node.type_inv.1.1.1.1.1.1.1.0 in
+    let span = c.node-node.type_inv.1.1.1.1.1.1.1.1.0 in
     let scope : n.scope < 2 ^ 32 = search rules in
     let number : n.number < 2 ^ 32 = search rules in
     let len : n.text.len < 2 ^ 16 = search rules in
@@ -41,8 +41,8 @@ returns c =
     let same : n.text.len ≡ at.text.len = ap (λ k. k.text.len) c.node-node.ensures in
     let long : length c.name.result.now ≤ 65535 = omega (arith, ap length c.name.ensures, bytes-few text at.text) in
     record {
-      puts = subst (λ k. Puts (40 ∷ head (saying k (bytes_at text at.text))) c.args.out.now c.label-on.new.out c.label-on.result) c.node-node.ensures
-          (subst (λ name. Puts (40 ∷ head (saying n name)) c.args.out.now c.label-on.new.out c.label-on.result) c.name.ensures (said c));
+      puts = subst (λ k. Puts (40 ∷ head (saying k (bytes_at text at.text))) c.args.out.now c.label_on.new.out c.label_on.result) c.node-node.ensures
+          (subst (λ name. Puts (40 ∷ head (saying n name)) c.args.out.now c.label_on.new.out c.label_on.result) c.name.ensures (said c));
       few = omega (arith, (said c).count, head_few (saying n c.name.result.now) long scope number lo hi);
       small = subst (λ k. k.size < 2 ^ 16) c.node-node.ensures size;
     }

@@ -4,5 +4,5 @@ use Rattle.printer.proofs.pieces.bytes_on.Goals as goal
 
 pub returns : goal.returns
 returns c =
-    adds_part c.args.bytes.now c.args.out.now c.put-bytes.new.out c.args.at c.min-from.result c.put-bytes.result c.saturating-add.result
-    (exact c.put-bytes.ensures.size (omega arith) c.put-bytes.ensures.holds) c.min-from.ensures (omega arith) c.saturating-add.ensures
+    adds_part c.args.bytes.now c.args.out.now c.put_bytes.new.out c.args.at c.min-from.result c.put_bytes.result c.saturating_add.result
+    (exact c.put_bytes.ensures.size (omega arith) c.put_bytes.ensures.holds) c.min-from.ensures (omega arith) c.saturating_add.ensures

@@ -10,15 +10,15 @@ loop-b-init c = (omega arith, λ out r a. a)
 
 pub loop-b-preserved : goal.loop-b-preserved
 loop-b-preserved c = (
-  c.saturating-add-n.type-inv,
+  c.saturating_add-n.type_inv,
   λ out r a.
       let text = c.args.text.now in
       let i = c.loop-b.b-index in
       let b = get_or text i 0 in
       let step : escaped (drop i text) ≡ escape b ++ escaped (drop (i + 1) text) = at_drop_more escaped text i 0 c.loop-b-test.true in
       c.loop-b.invariant.1 out r (subst (λ t. Adds t c.loop-b.out c.loop-b.n out r) (sym step) (adds_then (escape b) (escaped (drop (i + 1) text))
-      (adds_part (escape b) c.loop-b.out c.put-escaped.new.out c.loop-b.n c.min-from.result c.put-escaped.result c.saturating-add-n.result
-      (exact c.put-escaped.ensures.size (omega (arith, escape-few b)) c.put-escaped.ensures.holds) c.min-from.ensures (omega arith) c.saturating-add-n.ensures)
+      (adds_part (escape b) c.loop-b.out c.put_escaped.new.out c.loop-b.n c.min-from.result c.put_escaped.result c.saturating_add-n.result
+      (exact c.put_escaped.ensures.size (omega (arith, escape-few b)) c.put_escaped.ensures.holds) c.min-from.ensures (omega arith) c.saturating_add-n.ensures)
       a)),
 )
 

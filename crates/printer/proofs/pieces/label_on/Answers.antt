@@ -9,11 +9,11 @@ use Rattle.printer.proofs.pieces.label_on.Goals as goal
 pub returns-in-Ident : goal.returns-in-Ident
 returns-in-Ident c =
     let s = saying c.args.node c.args.name.now in
-    subst (λ l. Adds (label l s) c.args.out.now c.args.at c.number-on.new.out c.number-on.result) c.in-Ident.ensures
-    (adds_then (32 ∷ s.name) (32 ∷ decimal s.scope) c.word-on-n.ensures c.number-on.ensures)
+    subst (λ l. Adds (label l s) c.args.out.now c.args.at c.number_on.new.out c.number_on.result) c.in-Ident.ensures
+    (adds_then (32 ∷ s.name) (32 ∷ decimal s.scope) c.word_on-n.ensures c.number_on.ensures)
 
 pub returns-in-Handle : goal.returns-in-Handle
 returns-in-Handle c =
     let s = saying c.args.node c.args.name.now in
-    subst (λ l. Adds (label l s) c.args.out.now c.args.at c.number-on-in-Handle.new.out c.number-on-in-Handle.result) c.in-Handle.ensures
-    (adds_then (32 ∷ text_of s.word) (32 ∷ decimal s.number) (subst (λ w. Adds (32 ∷ w) c.args.out.now c.args.at c.word-on-n-in-Handle.new.out c.word-on-n-in-Handle.result) c.word-text_in-Handle.ensures c.word-on-n-in-Handle.ensures) c.number-on-in-Handle.ensures)
+    subst (λ l. Adds (label l s) c.args.out.now c.args.at c.number_on-in-Handle.new.out c.number_on-in-Handle.result) c.in-Handle.ensures
+    (adds_then (32 ∷ text_of s.word) (32 ∷ decimal s.number) (subst (λ w. Adds (32 ∷ w) c.args.out.now c.args.at c.word_on-n-in-Handle.new.out c.word_on-n-in-Handle.result) c.word_text-in-Handle.ensures c.word_on-n-in-Handle.ensures) c.number_on-in-Handle.ensures)

@@ -6,4 +6,4 @@ use Rattle.printer.proofs.pieces.text_on.Goals as goal
 pub returns : goal.returns
 returns c =
     let t = escaped c.args.text.now in
-    adds_then (32 ∷ 34 ∷ []) (t ++ (34 ∷ [])) c.bytes-on-n.ensures (adds_then t (34 ∷ []) c.escaped-on-n.ensures c.bytes-on.ensures)
+    adds_then (32 ∷ 34 ∷ []) (t ++ (34 ∷ [])) c.bytes_on-n.ensures (adds_then t (34 ∷ []) c.escaped_on-n.ensures c.bytes_on.ensures)

@@ -6,9 +6,9 @@ pub loop-i-init : goal.loop-i-init
 loop-i-init c = nothing c.args.text.now c.args.used
 
 pub loop-i-preserved : goal.loop-i-preserved
-loop-i-preserved c = more c.loop-i.invariant c.in-ok-end.ensures
+loop-i-preserved c = more c.loop-i.invariant c.in_ok-end.ensures
 
-pub returns-in-err-end : goal.returns-in-err-end
-returns-in-err-end c =
-    let p = err_from_is_err_and c.from-residual.result c.from-residual.ensures.1 in
-    rw (p.1, p.2) (more c.loop-i.invariant c.in-err-end.ensures)
+pub returns-in_err-end : goal.returns-in_err-end
+returns-in_err-end c =
+    let p = err_from_is_err_and c.from_residual.result c.from_residual.ensures.1 in
+    rw (p.1, p.2) (more c.loop-i.invariant c.in_err-end.ensures)

@@ -9,12 +9,12 @@ pub returns-in-Some : goal.returns-in-Some
 returns-in-Some c =
     let xs = contents c.args.self.now.frames in
     let ns = c.args.nodes.now in
-    let e = sym (c.get.ensures ∙ ap (slice_get xs) (c.saturating-sub.ensures ∙ ap (λ n. n - 1) c.len.ensures)) ∙ c.in-Some.is in
-    c.set-named.ensures ∙ called_top ns xs c.in-Some.frame e ∙ ap (λ b. cond b (called_in ns (reverse xs)) ns) c.if-not-may-dash.ensures
+    let e = sym (c.get.ensures ∙ ap (slice_get xs) (c.saturating_sub.ensures ∙ ap (λ n. n - 1) c.len.ensures)) ∙ c.in-Some.is in
+    c.set_named.ensures ∙ called_top ns xs c.in-Some.frame e ∙ ap (λ b. cond b (called_in ns (reverse xs)) ns) c.if-not-may_dash.ensures
 
-pub returns-in-default : goal.returns-in-default
-returns-in-default c =
+pub returns-in_default : goal.returns-in_default
+returns-in_default c =
     let xs = contents c.args.self.now.frames in
     let ns = c.args.nodes.now in
-    let e = sym (c.get.ensures ∙ ap (slice_get xs) (c.saturating-sub.ensures ∙ ap (λ n. n - 1) c.len.ensures)) ∙ c.in-default.is in
-    called_none ns xs e ∙ ap (λ b. cond b (called_in ns (reverse xs)) ns) c.if-not-may-dash.ensures
+    let e = sym (c.get.ensures ∙ ap (slice_get xs) (c.saturating_sub.ensures ∙ ap (λ n. n - 1) c.len.ensures)) ∙ c.in_default.is in
+    called_none ns xs e ∙ ap (λ b. cond b (called_in ns (reverse xs)) ns) c.if-not-may_dash.ensures
