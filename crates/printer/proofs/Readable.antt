@@ -1,18 +1,17 @@
 -- A text is read back in one way: runs of bytes up to a blank or a bracket, texts in quotes, labels, forms.
-use Rattle.std.proofs.Common.{◌≡◌, ℕ, ◌+◌, ◌/◌, ◌%◌, ◌^◌, ◌<◌, ◌≤◌, Bool, true, false, cond, not, ◌&&◌, ◌||◌, eqb, leb, ◌⊎◌, List, [], ◌∷◌, ◌++◌, length, Some, None, decimal, Option, sym, refl, ap, ◌∙◌, subst, ap₂, inl, inr, ⊎_elim, arith}
+use Rattle.std.proofs.Common.{◌≡◌, ℕ, ◌+◌, ◌%◌, ◌^◌, ◌<◌, Bool, true, cond, not, ◌&&◌, ◌||◌, eqb, leb, ◌⊎◌, List, [], ◌∷◌, ◌++◌, length, Some, None, decimal, Option, sym, refl, ap, ◌∙◌, subst, ap₂, inl, inr, arith}
 use Rattle.std.specs.Str.{bytes_eq}
 use Rattle.std.proofs.lemmas.Fmt.{decimal_by_steps, decimal_injective}
 use Rattle.std.proofs.lemmas.List.{append_assoc}
-use Rattle.std.proofs.lemmas.Bool.{false≢true, and_parts, and_from, ne_eqb, eqb-true, eqb-false, cases_Bool, cond_both, cond-true, cond-false}
+use Rattle.std.proofs.lemmas.Bool.{false≢true, and_parts, and_from, ne_eqb, eqb-true, cond_both, cond-false}
 use Rattle.tables.specs.Text.{every, in_name, starts_name, name}
 use Rattle.tables.specs.declared.kind.Kind.{Kind}
 use Rattle.tables.specs.declared.kind.Word.{Word}
-use Rattle.tables.specs.declared.node.Span.{Span}
 use Rattle.grammar.specs.declared.label.Label.{Label}
 use Rattle.grammar.specs.Labels.{label_of}
 use Rattle.grammar.specs.Words.{word_of, text_of, named, kinds}
 use Rattle.grammar.specs.Parts.{Said, says_function}
-use Rattle.grammar.specs.Forms.{Says, Form, form, Forms, nil, cons, escape, escaped, dash, label, head, written, parts, lines, printed}
+use Rattle.grammar.specs.Forms.{Says, Form, form, Forms, nil, cons, escape, escaped, dash, label, head, written, parts, lines}
 use Rattle.printer.specs.Told.{Sound, AllSaid, AllSaids, Injective}
 
 -- a byte that ends no run

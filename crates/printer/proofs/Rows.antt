@@ -1,12 +1,12 @@
 -- Trees in the table, printed one after another: at each turn, what is left to print gives the whole.
-use Rattle.std.proofs.Common.{◌≡◌, ℕ, suc, ◌+◌, ◌-◌, ◌^◌, ◌<◌, ◌≤◌, min, max, List, [], ◌∷◌, ◌++◌, length, get_or, drop, sym, refl, ap, ◌∙◌, subst, arith}
-use Rattle.std.proofs.lemmas.List.{drop_more, length-drop, length-append, append_assoc, drop_at, drop-drop, get_or-drop}
+use Rattle.std.proofs.Common.{◌≡◌, ℕ, suc, ◌+◌, ◌-◌, ◌^◌, ◌<◌, ◌≤◌, min, List, [], ◌∷◌, ◌++◌, length, get_or, drop, sym, refl, ap, ◌∙◌, arith}
+use Rattle.std.proofs.lemmas.List.{length-append, append_assoc, drop_at, drop-drop, get_or-drop}
 use Rattle.tables.specs.Modules.{void, node_at, next_at}
 use Rattle.tables.specs.declared.node.Node.{Node}
-use Rattle.walk.specs.Trees.{Label, Tree, node, Forest, nil, cons, over, flat, flats}
+use Rattle.walk.specs.Trees.{Label, Tree, node, Forest, nil, cons, flat, flats}
 use Rattle.grammar.specs.Forms.{written, parts, lines}
 use Rattle.printer.specs.Held.{held, helds}
-use Rattle.printer.specs.Writes.{Puts, Adds}
+use Rattle.printer.specs.Writes.{Adds}
 
 -- what is left of a form where these parts are, and of a module where these items are
 abbrev pub closing : List ℕ → Forest → List ℕ

@@ -1,15 +1,14 @@
-use Rattle.std.proofs.Common.{◌≡◌, ◌+◌, ◌-◌, ◌<◌, min, List, [], ◌∷◌, ◌++◌, length, drop, sym, refl, ap, ◌∙◌, subst, arith}
+use Rattle.std.proofs.Common.{◌≡◌, ◌+◌, ◌-◌, ◌<◌, min, List, [], ◌∷◌, ◌++◌, length, drop, sym, ap, ◌∙◌, subst, arith}
 use borrow.Rule.Slice.PartMut.{put_mid}
-use Rattle.std.proofs.lemmas.List.{append_assoc}
 use Rattle.tables.specs.Modules.{bytes_at}
 use Rattle.tables.specs.declared.node.Node.{Node}
-use Rattle.walk.specs.Trees.{Tree, node, Forest, nil, cons, flat, flats}
-use Rattle.grammar.specs.Forms.{head, parts, written}
-use Rattle.printer.specs.Held.{saying, said, held, helds}
+use Rattle.walk.specs.Trees.{Tree, node, flat, flats}
+use Rattle.grammar.specs.Forms.{head, written}
+use Rattle.printer.specs.Held.{saying, said, held}
 use Rattle.printer.specs.Writes.{Puts, Adds}
 use Rattle.printer.proofs.Adding.{adds_part, adds_then, puts_then}
 use Rattle.printer.proofs.Bounds.{few-more}
-use Rattle.printer.proofs.Rows.{Left, turn, over_all, here, started, closing, closing-more}
+use Rattle.printer.proofs.Rows.{turn, over_all, here, started, closing, closing-more}
 use Rattle.printer.proofs.forms.+put_form.Goals as goal
 
 pub loop-p-init : goal.loop-p-init

@@ -1,4 +1,4 @@
-use Rattle.std.proofs.Common.{◌≡◌, ◌^◌, ◌<◌, ◌≤◌, [], ◌∷◌, ◌++◌, length, decimal, sym, ap, ◌∙◌, subst, arith, rules}
+use Rattle.std.proofs.Common.{◌≡◌, ◌^◌, ◌<◌, ◌≤◌, [], ◌∷◌, ◌++◌, length, decimal, ap, subst, arith, rules}
 use Rattle.tables.specs.Modules.{node_at, bytes_at}
 use Rattle.grammar.specs.Forms.{label, head}
 use Rattle.grammar.specs.Labels.{label_of}

@@ -1,4 +1,4 @@
-use Rattle.std.proofs.Common.{refl, arith}
+use Rattle.std.proofs.Common.{refl}
 use Rattle.grammar.specs.Forms.{printed}
 use Rattle.printer.specs.Held.{held}
 use Rattle.printer.proofs.Answered.{fits-answer, fits_after, short_answer, short_after}

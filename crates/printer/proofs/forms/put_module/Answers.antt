@@ -1,16 +1,14 @@
-use Rattle.std.proofs.Common.{◌≡◌, ◌+◌, ◌-◌, ◌*◌, ◌<◌, ◌≤◌, min, List, [], ◌∷◌, ◌++◌, length, drop, sym, refl, ap, ◌∙◌, subst, arith}
-use borrow.Rule.Slice.PartMut.{put_mid}
-use Rattle.std.proofs.lemmas.List.{append-nil, append_assoc}
+use Rattle.std.proofs.Common.{◌≡◌, ◌<◌, min, [], ◌∷◌, length, sym, ap, ◌∙◌, subst, arith}
+use Rattle.std.proofs.lemmas.List.{append-nil}
 use Rattle.lex.specs.Written.{over}
 use Rattle.tables.specs.Modules.{node_at, bytes_at}
-use Rattle.tables.specs.declared.node.Node.{Node}
-use Rattle.walk.specs.Trees.{Tree, node, Forest, nil, cons, flat, flats}
+use Rattle.walk.specs.Trees.{Tree, node, flat, flats}
 use Rattle.grammar.specs.Forms.{head, written, printed}
 use Rattle.printer.specs.Held.{saying, said, held}
-use Rattle.printer.specs.Writes.{Puts, Adds}
+use Rattle.printer.specs.Writes.{Puts}
 use Rattle.printer.proofs.Adding.{adds_part, adds_then, adds_none, puts_then}
 use Rattle.printer.proofs.Bounds.{few_line, few_all}
-use Rattle.printer.proofs.Rows.{Left, turn, over_all, here, started, lining}
+use Rattle.printer.proofs.Rows.{turn, over_all, here, started, lining}
 use Rattle.printer.proofs.forms.put_module.Goals as goal
 
 pub loop-p-init : goal.loop-p-init
