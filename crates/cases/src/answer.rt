@@ -95,7 +95,7 @@ fn cuts(
     text: &mut [u8],
 ) -> io::Result<()> {
     for k in 0..form.len() {
-        print!(rt, "cut {k}")?;
+        print!(rt; "cut {k}")?;
         tell(
             rt,
             "",
