@@ -9,6 +9,7 @@ use input::{Settings, defaults, read_settings};
 use message::{tell_done, tell_stop};
 use std::io::Write;
 use std::path::Path;
+use std::process::ExitCode;
 use std::{env, fs};
 
 // The nodes that the tables have room for, and more bytes than a module of that size prints.
@@ -89,15 +90,23 @@ fn instrument_files(rt: &HostRuntime, form_path: &str, source_path: &str) -> any
     }
 }
 
-fn main(rt: HostRuntime) -> anyhow::Result<()> {
-    let mut args = env::args(&rt)?;
+fn run(rt: &HostRuntime) -> anyhow::Result<()> {
+    let mut args = env::args(rt)?;
     let _program = args.next();
     match (args.next(), args.next(), args.next()) {
-        (None, None, None) => instrument_files(&rt, "in.form", "in.src"),
-        (Some(form), Some(source), None) => instrument_files(&rt, form.as_str(), source.as_str()),
+        (None, None, None) => instrument_files(rt, "in.form", "in.src"),
+        (Some(form), Some(source), None) => instrument_files(rt, form.as_str(), source.as_str()),
         _ => {
             eprintln!(rt; "expected no arguments, or FORM and SOURCE")?;
             Err(anyhow!("bad arguments"))
         }
+    }
+}
+
+// What went wrong has been told by then, in one line: the error itself is not printed.
+fn main(rt: HostRuntime) -> ExitCode {
+    match run(&rt) {
+        Ok(()) => ExitCode::SUCCESS,
+        Err(_) => ExitCode::FAILURE,
     }
 }
