@@ -1,17 +1,16 @@
 -- The reader goes past every form that may stand where it is, and what it leaves in the tables is told by the form.
-use Rattle.std.proofs.Common.{◌≡◌, ℕ, suc, ◌+◌, ◌^◌, ◌<◌, ◌≤◌, max, Bool, true, false, cond, ltb, List, [], ◌∷◌, length, set, Some, None, Option, sym, refl, ap, ◌∙◌, subst, arith}
-use Rattle.std.proofs.lemmas.Bool.{cond-true, cond-false, lt-ltb, false≢true, true≢false}
+use Rattle.std.proofs.Common.{◌≡◌, ℕ, suc, ◌+◌, ◌^◌, ◌<◌, ◌≤◌, true, false, cond, List, [], ◌∷◌, length, Some, sym, refl, ap, ◌∙◌, subst, arith}
+use Rattle.std.proofs.lemmas.Bool.{cond-true, lt-ltb, false≢true}
 use Rattle.tables.specs.declared.kind.Kind.{Kind}
 use Rattle.tables.specs.declared.kind.Word.{Word}
-use Rattle.tables.specs.declared.node.Node.{Node}
-use Rattle.lex.specs.Tokens.{Tok, opens, closes, blank, feed, run, end}
+use Rattle.lex.specs.Tokens.{Tok, opens, closes, blank, feed, run}
 use Rattle.grammar.specs.declared.group.Group.{Group}
 use Rattle.grammar.specs.declared.label.Label.{Label}
 use Rattle.grammar.specs.declared.rest.Rest.{Rest}
-use Rattle.grammar.specs.Forms.{Says, Form, form, Forms, nil, cons}
+use Rattle.grammar.specs.Forms.{Says, Form, form, Forms}
 use Rattle.grammar.specs.Groups.{group}
 use Rattle.grammar.specs.Labels.{label_of}
-use Rattle.grammar.specs.Parts.{Proper, Said, says_function}
+use Rattle.grammar.specs.Parts.{Said, says_function}
 use Rattle.grammar.specs.Readings.{opening, Formed, formed, Reads, last, more, Items, item}
 use Rattle.grammar.specs.Readings as readings
 use Rattle.grammar.specs.Rests.{after, inside, goes_on, may_dash, closes as mayEnd}
@@ -21,8 +20,8 @@ use Rattle.reader.specs.declared.mode.Frame.{Frame}
 use Rattle.reader.specs.declared.mode.Mode.{Mode}
 use Rattle.reader.specs.Machine.{State, Step, go, step, framed, opened, worded, perhaps, called, called_in, closed_by, later, to}
 use Rattle.loading.specs.Depths.{depth, depths}
-use Rattle.loading.proofs.Toks.{due, field_toks, is_function, dashed, toks, part_toks, line_toks, module_toks}
-use Rattle.loading.proofs.Tabs.{Tab, at, head_tab, named_tab, name_tab, close_tab, tab_form, tab_forms, start_tab}
+use Rattle.loading.proofs.Toks.{due, field_toks, is_function, dashed, toks, part_toks, line_toks}
+use Rattle.loading.proofs.Tabs.{Tab, at, head_tab, named_tab, name_tab, close_tab, tab_form, tab_forms}
 use Rattle.loading.proofs.Past.{past, past_on}
 use Rattle.loading.proofs.States.{after-plain, opening-plain, opening-same, dash_only, inside-dash, inside_name, after-made, no_some}
 use Rattle.loading.proofs.Heads.{begun, Loadable, headed}

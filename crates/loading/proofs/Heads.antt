@@ -1,8 +1,7 @@
 -- The reader goes past what a form says before its parts.
-use Rattle.std.proofs.Common.{◌≡◌, ℕ, ◌^◌, ◌<◌, ◌≤◌, min, Bool, true, false, cond, eqb, leb, List, [], ◌∷◌, length, set, Some, None, decimal, Option, sym, refl, ap, ◌∙◌, ap₂, ⊎_elim, arith}
+use Rattle.std.proofs.Common.{◌≡◌, ℕ, ◌^◌, ◌<◌, ◌≤◌, min, true, cond, eqb, List, ◌∷◌, length, set, Some, decimal, sym, refl, ap, ◌∙◌, ⊎_elim, arith}
 use Rattle.std.proofs.lemmas.Bool.{cond-true, le-leb, cases_Bool, eqb-true, false≢true}
 use Rattle.tables.specs.Modules.{made}
-use Rattle.tables.specs.Text.{name}
 use Rattle.tables.specs.declared.kind.Kind.{Kind}
 use Rattle.tables.specs.declared.kind.Word.{Word}
 use Rattle.tables.specs.declared.node.Node.{Node}
@@ -19,9 +18,9 @@ use Rattle.grammar.specs.Words.{text_of, variables_of}
 use Rattle.reader.specs.declared.mode.Field.{Field}
 use Rattle.reader.specs.declared.mode.Frame.{Frame}
 use Rattle.reader.specs.declared.mode.Mode.{Mode}
-use Rattle.reader.specs.Machine.{State, go, sum, perhaps, mapped, hi_from, with_lo, with_hi, with_text, with_scope, with_word, fill, kept_at, next_field, advance, filled, said}
+use Rattle.reader.specs.Machine.{go, sum, perhaps, mapped, hi_from, with_lo, with_text, with_scope, with_word, fill, kept_at, next_field, advance, filled}
 use Rattle.loading.proofs.Toks.{due, field_toks}
-use Rattle.loading.proofs.Tabs.{Tab, at, word_by, place_by, text_by, bytes_by, nowhere, node_of, head_tab}
+use Rattle.loading.proofs.Tabs.{Tab, at, word_by, place_by, text_by, bytes_by, nowhere, head_tab}
 use Rattle.loading.proofs.Past.{past, past_on}
 
 -- a form of a kind has begun

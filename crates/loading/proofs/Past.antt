@@ -1,9 +1,7 @@
 -- Reading tokens without regard to their places: a step that goes on does not depend on the place.
-use Rattle.std.proofs.Common.{◌≡◌, ℕ, Bool, true, false, cond, ◌&&◌, ltb, List, [], ◌∷◌, ◌++◌, length, Some, None, Option, sym, refl, ap, ◌∙◌, arith}
-use Rattle.tables.specs.declared.fault.Fault.{Fault}
-use Rattle.lex.specs.Tokens.{Tok, opens, closes, blank, feed, run, end, foul}
-use Rattle.lex.specs.Texts.{plainly}
-use Rattle.reader.specs.Machine.{State, Step, go, done, stop, step, goes, Outcome, accepted, refused, onward}
+use Rattle.std.proofs.Common.{◌≡◌, ℕ, List, [], ◌∷◌, ◌++◌, Some, None, Option, refl, ap, ◌∙◌, arith}
+use Rattle.lex.specs.Tokens.{Tok}
+use Rattle.reader.specs.Machine.{State, Step, go, done, stop, step}
 
 abbrev pub passed : Step → (State → Option State) → Option State
 passed (go s) f = f s

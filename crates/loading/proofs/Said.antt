@@ -1,30 +1,23 @@
 -- Which tokens may still follow where the reader is: they are just those that lead on.
-use Rattle.std.proofs.Common.{◌≡◌, ℕ, suc, ◌^◌, ◌<◌, ◌≤◌, min, Bool, true, false, cond, ◌&&◌, eqb, ltb, leb, List, [], ◌∷◌, ◌++◌, length, Some, None, decimal, Option, sym, refl, ap, ◌∙◌, subst, ⊎_elim, arith}
+use Rattle.std.proofs.Common.{◌≡◌, ℕ, ◌^◌, ◌<◌, ◌≤◌, Bool, true, false, cond, eqb, leb, List, [], ◌∷◌, Some, None, Option, sym, refl, ap, ◌∙◌, subst, arith}
 use Rattle.std.specs.Str.{bytes_eq}
-use Rattle.std.proofs.lemmas.Bool.{leb-true, and_parts, cases_Bool, eqb-true, eqb-false, false≢true, true≢false}
-use Rattle.tables.specs.Text.{name}
-use Rattle.tables.specs.declared.fault.Fault.{Fault}
+use Rattle.std.proofs.lemmas.Bool.{leb-true, and_parts, eqb-true, false≢true}
 use Rattle.tables.specs.declared.kind.Kind.{Kind}
 use Rattle.tables.specs.declared.kind.Word.{Word}
 use Rattle.tables.specs.declared.node.Node.{Node}
 use Rattle.tables.specs.declared.node.Span.{Span}
-use Rattle.lex.specs.Numbers.{number_of}
-use Rattle.lex.specs.Tokens.{Tok, opens, closes, blank, feed, run, end, foul}
-use Rattle.lex.proofs.Numbers.{only_decimal}
+use Rattle.lex.specs.Tokens.{Tok, closes, blank, feed, run, end}
 use Rattle.grammar.specs.declared.label.Label.{Label}
 use Rattle.grammar.specs.declared.rest.Rest.{Rest}
-use Rattle.grammar.specs.Forms.{Says, Form, form, Forms, nil, cons}
-use Rattle.grammar.specs.Labels.{label_of}
-use Rattle.grammar.specs.Parts.{Placed, Said, Proper, says_function, says_variables}
-use Rattle.grammar.specs.Readings.{opening, Formed, formed, Reads, last, more, Items, item}
-use Rattle.grammar.specs.Rests.{after, inside, goes_on, may_dash, closes as mayEnd}
-use Rattle.grammar.specs.Words.{word_of, kind_of, text_of, variables_of}
+use Rattle.grammar.specs.Forms.{Says, Forms}
+use Rattle.grammar.specs.Parts.{Placed, Said, says_function, says_variables}
+use Rattle.grammar.specs.Readings.{opening, Reads, Items}
+use Rattle.grammar.specs.Rests.{after, may_dash}
+use Rattle.grammar.specs.Words.{text_of, variables_of}
 use Rattle.reader.specs.declared.mode.Field.{Field}
 use Rattle.reader.specs.declared.mode.Frame.{Frame}
-use Rattle.reader.specs.declared.mode.Mode.{Mode}
-use Rattle.reader.specs.Machine.{State, Step, go, done, stop, step, step_by, perhaps, mapped, hi_from, with_lo, with_hi, with_text, with_scope, with_word, fill, next_field}
-use Rattle.loading.proofs.Toks.{due, field_toks, field_text, is_function, dashed, toks, part_toks, line_toks}
-use Rattle.loading.proofs.Heads.{Loadable}
+use Rattle.reader.specs.Machine.{mapped, hi_from, with_hi}
+use Rattle.loading.proofs.Toks.{due, field_toks, field_text, dashed, part_toks, line_toks}
 use Rattle.loading.proofs.States.{opening-same}
 
 -- what a form with a label says at a field

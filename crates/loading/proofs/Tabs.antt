@@ -1,5 +1,5 @@
 -- What the reader does to the tables while it reads a form.
-use Rattle.std.proofs.Common.{ℕ, min, true, List, [], ◌∷◌, length, set}
+use Rattle.std.proofs.Common.{ℕ, min, List, length, set}
 use Rattle.tables.specs.Modules.{node_at, made}
 use Rattle.tables.specs.declared.kind.Kind.{Kind}
 use Rattle.tables.specs.declared.kind.Word.{Word}
