@@ -1,4 +1,4 @@
-// Runs the table of cases whose answers are those of the published Rust.
+// Runs the table of cases whose answers are those of the published Rust. A program of its own beside `vectors`, for its own input and stored output.
 #![tactic(auto)]
 
 use cases::run_table;

@@ -1,16 +1,26 @@
 // What comes of a case.
-use crate::case::{Case, after, settings_of};
+use crate::buffers::Buffers;
+use crate::case::Case;
 use comments::Arrival;
-use driver::{print_module, run_module};
-use form::load;
-use input::{cut, line_end, note_line, unquote};
-use refresh::{HookRegister, Sizes};
+use driver::{Call, Lent};
+use input::{Lines, note_line, split_once, unquote};
 use session::note;
-use std::io;
 use std::io::Write;
-use tables::{Fault, Node};
+use std::{fmt, io};
+use tables::{Fault, List};
 
-fn tell(rt: &HostRuntime, call: &str, r: Result<usize, Fault>) -> io::Result<()> {
+// A load of the first so many bytes of a form.
+#[derive(Clone, Copy)]
+struct Cut(usize);
+
+impl fmt::Display for Cut {
+    fn fmt<W: fmt::Write>(&self, f: &mut fmt::Formatter<W>) -> fmt::Result {
+        let length = self.0;
+        write!(f, "cut {length}")
+    }
+}
+
+fn tell<C: fmt::Display>(rt: &HostRuntime, call: &C, r: Result<usize, Fault>) -> io::Result<()> {
     match r {
         Ok(n) => println!(rt; "{call} ok {n}"),
         Err(fault) => {
@@ -21,166 +31,128 @@ fn tell(rt: &HostRuntime, call: &str, r: Result<usize, Fault>) -> io::Result<()>
     }
 }
 
-fn count(r: Result<Sizes, Fault>, before: usize) -> Result<usize, Fault> {
-    match r {
-        Ok(sizes) => Ok(sizes.nodes.saturating_sub(before)),
-        Err(fault) => Err(fault),
-    }
+// The byte that an escape in a line of source stands for: any byte may be escaped here, where a note's text has three.
+fn escaped(b: u8) -> u8 {
+    if b == b'n' { b'\n' } else { b }
 }
 
-fn load_form(
-    form: &[u8],
-    source: &[u8],
-    nodes: &mut [Node],
-    text: &mut [u8],
-) -> Result<Sizes, Fault> {
-    match load(form, source, nodes, text) {
-        Ok(loaded) => Ok(Sizes {
-            nodes: loaded.nodes,
-            text: loaded.text,
-        }),
-        Err(fault) => Err(fault),
-    }
-}
-
-// Writes a line of source, escapes undone.
-fn unescape(line: &[u8], out: &mut [u8]) -> usize {
-    let mut n = 0;
-    let mut escape = false;
-    for b in line {
-        if *b == b'\\' && !escape {
-            escape = true;
-        } else if n < out.len() {
-            out[n] = if escape && *b == b'n' { b'\n' } else { *b };
-            n += 1;
-            escape = false;
+// Writes a line of source, escapes undone, as far as it fits, and answers what was written.
+fn unescape<'o>(line: &[u8], out: &'o mut [u8]) -> &'o [u8] {
+    let mut bytes = line.iter();
+    let mut plain = List::over(&mut *out);
+    // no `for`: after a backslash one byte more is taken
+    while let Some(b) = bytes.next() {
+        let byte = match b {
+            b'\\' => bytes.next().map(|b| escaped(*b)),
+            other => Some(*other),
+        };
+        if !byte.is_some_and(|byte| plain.push(byte).is_ok()) {
+            break;
         }
     }
-    n
+    let n = plain.len();
+    out.get(..n).unwrap_or(b"")
 }
 
-// Writes the source of a case, and answers how many bytes it has.
-pub fn source_of(case: &Case, out: &mut [u8]) -> usize {
+// Writes the source of a case, and answers what was written.
+fn source_of<'o>(case: &Case, out: &'o mut [u8]) -> &'o [u8] {
     let Some(fill) = case.fill else {
         return unescape(case.source, out);
     };
     let n = fill.min(out.len());
-    for i in 0..n {
-        out[i] = b'x';
-    }
-    n
+    out[..n].fill(b'x');
+    &out[..n]
 }
 
-// Writes the form of a case, and answers how many bytes it has.
-pub fn form_of(case: &Case, out: &mut [u8]) -> usize {
+// Writes the form of a case, and answers what was written.
+fn form_of<'o>(case: &Case, out: &'o mut [u8]) -> &'o [u8] {
     match case.quoted {
-        Some(quoted) => match unquote(quoted, out) {
-            Some(n) => n,
-            None => 0,
-        },
+        Some(quoted) => unquote(quoted, out).unwrap_or(b""),
         None => {
             let n = case.form.len().min(out.len());
-            out[0..n].copy_from_slice(&case.form[0..n]);
-            n
+            out[..n].copy_from_slice(&case.form[..n]);
+            &out[..n]
         }
     }
 }
 
 // Loads every shorter beginning of a form.
-fn cuts(
-    rt: &HostRuntime,
-    form: &[u8],
-    source: &[u8],
-    nodes: &mut [Node],
-    text: &mut [u8],
-) -> io::Result<()> {
+fn cuts(rt: &HostRuntime, form: &[u8], source: &[u8], lent: &mut Lent) -> io::Result<()> {
+    // by number, since the number is told
     for k in 0..form.len() {
-        print!(rt; "cut {k}")?;
         tell(
             rt,
-            "",
-            count(load_form(cut(form, 0, k), source, nodes, text), 0),
+            &Cut(k),
+            lent.load(&form[..k], source).map(|sizes| sizes.nodes),
         )?;
     }
     Ok(())
 }
 
-// Notes the lines of a case that are notes.
+// Notes the lines of a case that are notes. Unlike the driver it tells each answer and goes on after a refusal.
 fn take_notes(
     rt: &HostRuntime,
-    lines: &[u8],
+    head: &[u8],
     source: &[u8],
     store: &mut Arrival,
     scratch: &mut [u8],
 ) -> io::Result<()> {
-    let mut at = 0;
-    while at < lines.len() {
-        let end = line_end(lines, at);
-        if let Some(line) = after(cut(lines, at, end), b"note") {
-            if let Some(read) = note_line(line, scratch) {
-                tell(
-                    rt,
-                    "note",
-                    note(
-                        store,
-                        source,
-                        read.side,
-                        read.position,
-                        cut(scratch, 0, read.len),
-                    ),
-                )?;
-            }
-        }
-        at = end.saturating_add(1);
+    for line in Lines::of(head) {
+        let Some((b"note", line)) = split_once(line, b' ') else {
+            continue;
+        };
+        let Some(read) = note_line(line, scratch) else {
+            continue;
+        };
+        tell(
+            rt,
+            &Call::Note,
+            note(store, source, read.side, read.position, read.text),
+        )?;
     }
     Ok(())
 }
 
-// Runs a case over a form and a source, in tables of the size that it asks for.
+// Runs a case in lent tables.
 pub fn run_case(
     rt: &HostRuntime,
     case: &Case,
-    form: &[u8],
-    source: &[u8],
-    pass: &mut HookRegister,
-    nodes: &mut [Node],
-    text: &mut [u8],
-    stack: &mut [u16],
-    scratch: &mut [u8],
-    out: &mut [u8],
+    lent: &mut Lent,
+    buffers: &mut Buffers,
 ) -> io::Result<()> {
     rt.stdout().write_all(b"case ")?;
     rt.stdout().write_all(case.name)?;
     rt.stdout().write_all(b"\n")?;
+    let source = source_of(case, buffers.source.as_mut_slice());
+    let form = form_of(case, buffers.form.as_mut_slice());
     if case.cuts {
-        return cuts(rt, form, source, nodes, text);
+        return cuts(rt, form, source, lent);
     }
     let mut store = Arrival::new();
-    let loaded = load_form(form, source, nodes, text);
-    tell(rt, "load", count(loaded, 0))?;
-    let Ok(sizes) = loaded else {
+    let loaded = lent.load(form, source);
+    tell(rt, &Call::Load, loaded.map(|sizes| sizes.nodes))?;
+    let Ok(loaded) = loaded else {
         return Ok(());
     };
-    take_notes(rt, case.notes, source, &mut store, scratch)?;
-    let settings = settings_of(case.options);
-    let ran = run_module(pass, nodes, text, sizes, source, stack, &settings, &store);
-    tell(rt, "run", count(ran, sizes.nodes))?;
-    let printed = print_module(
-        nodes,
-        text,
+    take_notes(
+        rt,
+        case.head,
         source,
-        ran.unwrap_or(sizes),
-        cut_mut(out, case.room),
-    );
-    tell(rt, "print", printed)?;
+        &mut store,
+        buffers.note.as_mut_slice(),
+    )?;
+    let ran = lent.run(loaded, source, &case.settings, &store);
+    tell(
+        rt,
+        &Call::Run,
+        ran.map(|sizes| sizes.nodes.saturating_sub(loaded.nodes)),
+    )?;
+    let out = buffers.printed.as_mut_slice();
+    let room = case.room.min(out.len());
+    let printed = lent.print(ran.unwrap_or(loaded), source, &mut out[..room]);
+    tell(rt, &Call::Print, printed)?;
     if let Ok(n) = printed {
-        rt.stdout().write_all(cut(out, 0, n))?;
+        rt.stdout().write_all(&out[..n])?;
     }
     Ok(())
-}
-
-// The front of a buffer.
-fn cut_mut(out: &mut [u8], n: usize) -> &mut [u8] {
-    let n = n.min(out.len());
-    &mut out[0..n]
 }

@@ -1,50 +1,35 @@
 -- Notes offered one after another.
-use Rattle.std.proofs.Common.{◌≡◌, ℕ, ◌+◌, ◌<◌, ◌≤◌, Bool, true, false, cond, ◌&&◌, eqb, ltb, leb, List, [], ◌∷◌, length, Ok, Err, Result, sym, refl, ap, ◌∙◌, subst, ap₂, arith}
+use Rattle.std.proofs.Common.{◌≡◌, ℕ, ◌+◌, ◌<◌, ◌≤◌, Bool, true, false, cond, ◌&&◌, eqb, List, [], ◌∷◌, length, Ok, Err, Result, sym, refl, ap, ◌∙◌, subst, ap₂, arith}
 use mathlib.Core.List.Permᴰ
 use mathlib.Core.List.{Permᴰ}
-use Rattle.std.proofs.lemmas.Bool.{cond-true, cond-false, and_from, and_left, and_right, or_left, or_right, lt-ltb, le-ltb, le-leb, lt-leb, eq-eqb}
+use Rattle.std.proofs.lemmas.Bool.Decides.{nat_tests}
+use Rattle.std.proofs.lemmas.Bool.{cond-true, and_from, or_left, or_right, eq-eqb}
 use Rattle.comments.specs.declared.types.Full.{Full}
 use Rattle.comments.specs.declared.types.Side.{Side}
 use Rattle.comments.specs.Notes.{Note, number, before, insert, ordered, bytes, has, fits, noted, noted_answer, told, answers}
 use Rattle.comments.specs.Laws.{Permutation, after, AllFit, EqualExactly, AddsOne, OrderAside, AnsweredAlike, Taken, Refused, RefusedExactly, NoteLimit, ByteLimit, FoundByItsText, StaysFound}
-use Rattle.comments.proofs.Order.{insert_comm, length-insert, bytes-insert, told-insert}
+use Rattle.comments.proofs.Order.{insert_comm, length-insert, bytes-insert, length-ordered, bytes-ordered, told-insert}
 use Rattle.comments.proofs.Standing.{has_itself}
 
 -- ---- room
 module _ (held : List Note) (n : Note) where
-  fits_in : length held < 512 → bytes held + length n.text ≤ 16384 → fits held n ≡ true
-  fits_in a b = and_from (ltb (length held) 512) (leb (bytes held + length n.text) 16384) (lt-ltb (length held) 512 a) (le-leb (bytes held + length n.text) 16384 b)
+  taken : length held < 512 → bytes held + length n.text ≤ 16384 → Taken held n
+  taken a b = (grind (arith, nat_tests), grind (arith, nat_tests))
 
-  many : 512 ≤ length held → fits held n ≡ false
-  many a = and_left (ltb (length held) 512) (leb (bytes held + length n.text) 16384) (le-ltb (length held) 512 a)
+  many : 512 ≤ length held → Refused held n
+  many a = (grind (arith, nat_tests), grind (arith, nat_tests))
 
-  long : 16384 < bytes held + length n.text → fits held n ≡ false
-  long a = and_right (ltb (length held) 512) (leb (bytes held + length n.text) 16384) (lt-leb (bytes held + length n.text) 16384 a)
-
-  taken : fits held n ≡ true → Taken held n
-  taken e = (cond-true (fits held n) _ _ e, cond-true (fits held n) _ _ e)
-
-  refused : fits held n ≡ false → Refused held n
-  refused e = (cond-false (fits held n) _ _ e, cond-false (fits held n) _ _ e)
+  long : 16384 < bytes held + length n.text → Refused held n
+  long a = (grind (arith, nat_tests), grind (arith, nat_tests))
 
 pub refused_exactly : RefusedExactly
-refused_exactly held n = (
-  (λ a b. taken held n (fits_in held n (omega arith) b)),
-  (λ a. refused held n (many held n (omega arith))),
-  (λ a. refused held n (long held n a)),
-)
+refused_exactly held n = ((λ a b. taken held n (omega arith) b), (λ a. many held n (omega arith)), (λ a. long held n a))
 
 pub note_limit : NoteLimit
-note_limit held n = (
-  (λ a b. let t = taken held n (fits_in held n (omega arith) b) in (t.0 ∙ ap (λ k. Ok (k + 1)) a, t.1)),
-  (λ a. refused held n (many held n (omega arith))),
-)
+note_limit held n = ((λ a b. let t = taken held n (omega arith) b in (t.0 ∙ ap (λ k. Ok (k + 1)) a, t.1)), (λ a. many held n (omega arith)))
 
 pub byte_limit : ByteLimit
-byte_limit held n few = (
-  (λ a. taken held n (fits_in held n few (omega arith))),
-  (λ a. refused held n (long held n (omega arith))),
-)
+byte_limit held n few = ((λ a. taken held n few (omega arith)), (λ a. long held n (omega arith)))
 
 -- ---- order aside
 pub adds_one : AddsOne
@@ -82,24 +67,18 @@ added-perm held (Permᴰ.trans p q) = added-perm held p ∙ added-perm held q
 all_taken : (held xs : List Note) → AllFit held xs → after held xs ≡ added held xs
 all_taken held [] r = refl
 all_taken held (x ∷ xs) r =
-    let e : noted held x ≡ insert x held = (taken held x (fits_in held x (omega (arith, r.0)) (omega (arith, r.1)))).1 in
+    let e : noted held x ≡ insert x held = (taken held x (omega (arith, r.0)) (omega (arith, r.1))).1 in
     ap (λ h. after h xs) e ∙ all_taken (insert x held) xs (omega (arith, r.0, length-insert x held), omega (arith, r.1, bytes-insert x held))
 
-length-perm : {xs ys : List Note} → Permᴰ xs ys → length xs ≡ length ys
-length-perm Permᴰ.nil = refl
-length-perm (Permᴰ.cons e p) = omega (arith, length-perm p)
-length-perm (Permᴰ.swap e d) = refl
-length-perm (Permᴰ.trans p q) = length-perm p ∙ length-perm q
+length-perm : (xs ys : List Note) → Permᴰ xs ys → length xs ≡ length ys
+length-perm xs ys p = sym (length-ordered xs) ∙ ap length (ordered-perm p) ∙ length-ordered ys
 
-bytes_perm : {xs ys : List Note} → Permᴰ xs ys → bytes xs ≡ bytes ys
-bytes_perm Permᴰ.nil = refl
-bytes_perm (Permᴰ.cons e p) = ap₂ (λ x k. length x.text + k) e (bytes_perm p)
-bytes_perm (Permᴰ.swap e f) = omega (arith, ap (λ n. length n.text) e, ap (λ n. length n.text) f)
-bytes_perm (Permᴰ.trans p q) = bytes_perm p ∙ bytes_perm q
+bytes_perm : (xs ys : List Note) → Permᴰ xs ys → bytes xs ≡ bytes ys
+bytes_perm xs ys p = sym (bytes-ordered xs) ∙ ap bytes (ordered-perm p) ∙ bytes-ordered ys
 
 pub order_aside : OrderAside
 order_aside held xs ys p r =
-    all_taken held xs r ∙ added-perm held p ∙ sym (all_taken held ys (omega (arith, r.0, length-perm p), omega (arith, r.1, bytes_perm p)))
+    all_taken held xs r ∙ added-perm held p ∙ sym (all_taken held ys (omega (arith, r.0, length-perm xs ys p), omega (arith, r.1, bytes_perm xs ys p)))
 
 pub answered_alike : AnsweredAlike
 answered_alike held xs ys p r s q nd = ap (λ l. told l s q nd) (order_aside held xs ys p r)
@@ -135,5 +114,5 @@ found_by_its_text held n count more e =
     let p = n.position in
     let nd = n.text in
     let here : told (noted held n) n.side n.position n.text ≡ true =
-    ap (λ l. told l s p nd) (taken held n (ok_fits held n count e)).1 ∙ told-insert s p nd n held ∙ or_left (answers s p nd n) (told held s p nd) (answers_itself n) in
+    ap (λ l. told l s p nd) (cond-true (fits held n) (insert n held) held (ok_fits held n count e)) ∙ told-insert s p nd n held ∙ or_left (answers s p nd n) (told held s p nd) (answers_itself n) in
     stays_found (noted held n) more s p nd here

@@ -1,5 +1,5 @@
 -- What does not hang on the order of the notes.
-use Rattle.std.proofs.Common.{◌≡◌, ℕ, zero, suc, ◌+◌, Bool, true, false, cond, ◌||◌, List, [], ◌∷◌, ◌++◌, length, sym, refl, ap, ◌∙◌, ⊎_elim, arith}
+use Rattle.std.proofs.Common.{◌≡◌, ℕ, ◌+◌, Bool, true, false, cond, ◌||◌, List, [], ◌∷◌, ◌++◌, length, sym, refl, ap, ap₂, ◌∙◌, ⊎_elim, arith}
 use Rattle.std.proofs.lemmas.Bool.{cases_Bool, true≢false}
 use Rattle.std.proofs.lemmas.Bool.Decides.{nat_tests}
 use Rattle.comments.specs.declared.types.Side.{Side}
@@ -37,36 +37,21 @@ before_trans : (a b c : Note) → before a b ≡ true → before b c ≡ true �
 unfolding before
 before_trans a b c e d = upto_trans (keys a) (keys b) (keys c) e d
 
-side_of : ℕ → Side
-side_of zero = Leading
-side_of (suc n) = Trailing
-
-side_of_number : (s : Side) → side_of (number s) ≡ s
-unfolding side_of
-side_of_number Leading = refl
-side_of_number Trailing = refl
-
 pub same-side : (a b : Side) → number a ≡ number b → a ≡ b
-same-side a b e = sym (side_of_number a) ∙ ap side_of e ∙ side_of_number b
-
-head_of : List ℕ → ℕ
-head_of [] = 0
-head_of (x ∷ xs) = x
-
-tail_of : List ℕ → List ℕ
-tail_of [] = []
-tail_of (x ∷ xs) = xs
-
-from_keys : List ℕ → Note
-from_keys l = a_note (side_of (head_of l)) (head_of (tail_of l)) (tail_of (tail_of l))
-
-from_keys-keys : (n : Note) → from_keys (keys n) ≡ n
-unfolding from_keys head_of tail_of
-from_keys-keys n = ap (λ s. a_note s n.position n.text) (side_of_number n.side)
+same-side Leading Leading e = refl
+same-side Leading Trailing e = absurd (omega (arith, e))
+same-side Trailing Leading e = absurd (omega (arith, e))
+same-side Trailing Trailing e = refl
 
 before_both : (a b : Note) → before a b ≡ true → before b a ≡ true → a ≡ b
 unfolding before
-before_both a b e d = sym (from_keys-keys a) ∙ ap from_keys (upto_both (keys a) (keys b) e d) ∙ from_keys-keys b
+before_both a b e d =
+    let same = upto_both (keys a) (keys b) e d in
+    let number_same : number a.side ≡ number b.side = cc in
+    let position_same : a.position ≡ b.position = cc in
+    let text_same : a.text ≡ b.text = cc in
+    let side_same = same-side a.side b.side number_same in
+    ap (λ s. a_note s a.position a.text) side_same ∙ ap₂ (λ p t. a_note b.side p t) position_same text_same
 
 -- two at the head of a list, in the order that they belong in
 two : (a b : Note) (l : List Note) → cond (before a b) (a ∷ b ∷ l) (b ∷ a ∷ l) ≡ cond (before b a) (b ∷ a ∷ l) (a ∷ b ∷ l)

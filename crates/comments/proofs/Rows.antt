@@ -1,15 +1,17 @@
 -- The notes that the records of a table stand for.
-use Rattle.std.proofs.Common.{◌≡◌, ℕ, zero, suc, ◌+◌, ◌<◌, ◌≤◌, Bool, true, false, ◌&&◌, ltb, leb, List, [], ◌∷◌, ◌++◌, map, length, get_or, take, drop, Decides, sym, refl, ap, ◌∙◌, subst, ap₂, ⊎_elim, arith}
-use Rattle.std.proofs.lemmas.List.{length-map, length-take, length-drop, length-take-le, get_or-map, get_or-take, take_at, take-take, drop_at, drop-take, take-map, drop-map, take-append-drop, map-append}
+use Rattle.std.proofs.Common.{◌≡◌, ℕ, zero, suc, ◌+◌, ◌<◌, ◌≤◌, Bool, ◌&&◌, ltb, leb, List, [], ◌∷◌, ◌++◌, map, length, take, drop, Decides, sym, refl, ap, ◌∙◌, subst, ap₂, arith}
+use Rattle.std.proofs.lemmas.List.{length-map, length-take, length-drop, length-take-le, get_or-take, take_at, take-take, drop_at, drop-take, take-map, drop-map, take-append-drop, map-append}
+use Rattle.std.proofs.lemmas.List.Recursion.{is_sum_by}
+use Rattle.std.proofs.lemmas.List.Sums.{sum_by-insert}
+use Rattle.std.proofs.lemmas.Bool.Decides.{nat_tests}
 use Rattle.std.proofs.ByRecursion.{All-from_get_or, All-get_or, All-append, All-take, All-drop, All-weaker}
-use Rattle.std.proofs.lemmas.Bool.{and_from, and_parts, both_ways, cases_Bool, lt-ltb, le-leb, ltb-true, leb-true}
-use Rattle.std.specs.List.{insert as inserted, AllByRecursion as All}
+use Rattle.std.specs.List.{insert as inserted, sum_by, AllByRecursion as All}
 use Rattle.comments.specs.declared.types.Side.{Side}
 use Rattle.comments.specs.declared.records.Record.{Record}
 use Rattle.comments.specs.declared.table.Table.{Table}
 use Rattle.comments.specs.Notes.{a_note, bytes, ordered, room, insert}
 use Rattle.comments.specs.Records.{read, blank, position_of, Within, sizes}
-use Rattle.comments.specs.Tables.{recorded, note_at, positions, held}
+use Rattle.comments.specs.Tables.{recorded, positions, held}
 use Rattle.comments.proofs.Order.{length-ordered, bytes-ordered, ordered_mid}
 
 module _ (t : Table) where
@@ -18,14 +20,6 @@ module _ (t : Table) where
 
   pub length-recorded : length (recorded t) ≡ t.count
   length-recorded = length-map (take t.count t.records) (read t.bytes) ∙ length-take-le t.count t.records few
-
-  pub recorded_at : (i : ℕ) → i < t.count → get_or (recorded t) i (note_at t i) ≡ note_at t i
-  recorded_at i h =
-      let lt : i < length (take t.count t.records) = omega (arith, length-take-le t.count t.records few) in
-      get_or-map (read t.bytes) (take t.count t.records) i blank _ lt ∙ ap (read t.bytes) (get_or-take t.count t.records i blank h)
-
-pub recorded-few : (t : Table) → length (recorded t) ≤ t.count
-recorded-few t = simp (length-map, length-take) (omega arith)
 
 -- ---- how many bytes stand
 head-within : (r : Record) (rs : List Record) (n used : ℕ) → Within (suc n) used (r ∷ rs) → r.start + r.size ≤ used
@@ -54,17 +48,8 @@ room_is t size =
     (length-ordered (recorded t) ∙ length-recorded t)
     (bytes-ordered (recorded t) ∙ bytes_read t.bytes t.used t.count t.records (omega (arith, t.area, t.short)) t.within ∙ t.sum)
 
-module _ (t : Table) (size : ℕ) where
-  pub room_there : (t.count < 512) × (t.used + size ≤ 16384) → room (held t) size ≡ true
-  room_there h = room_is t size ∙ and_from (ltb t.count 512) (leb (t.used + size) 16384) (lt-ltb t.count 512 h.0) (le-leb (t.used + size) 16384 h.1)
-
-  pub no_room : (r : Bool) → Decides r ((t.count < 512) × (t.used + size ≤ 16384)) → r ≡ false → room (held t) size ≡ false
-  no_room r d e = ⊎_elim (λ y. absurd (both_ways r e (d.1 (spare y)))) (λ n. n) (cases_Bool (room (held t) size))
-    where
-      spare : room (held t) size ≡ true → (t.count < 512) × (t.used + size ≤ 16384)
-      spare y =
-          let q = and_parts (ltb t.count 512) (leb (t.used + size) 16384) (sym (room_is t size) ∙ y) in
-          (ltb-true t.count 512 q.0, leb-true (t.used + size) 16384 q.1)
+pub room_same : (t : Table) (size : ℕ) (r : Bool) → Decides r ((t.count < 512) × (t.used + size ≤ 16384)) → r ≡ room (held t) size
+room_same t size r d = grind (arith, nat_tests, d.0, d.1, room_is t size)
 
 -- ---- bytes written behind those in use leave the notes as they are
 read_same : (text changed : List ℕ) (used : ℕ) (r : Record) → take used changed ≡ take used text → r.start + r.size ≤ used → read changed r ≡ read text r
@@ -80,9 +65,8 @@ reads_same text changed used (suc n) (r ∷ rs) same w =
     ap₂ (λ a b. a ∷ b) (read_same text changed used r same (head-within r rs n used w)) (reads_same text changed used n rs same (rest_within r rs n used w))
 
 -- ---- what the records say, one more among them
-sizes_mid : (xs ys : List Record) (r : Record) → sizes (xs ++ r ∷ ys) ≡ sizes (xs ++ ys) + r.size
-sizes_mid [] ys r = omega arith
-sizes_mid (x ∷ xs) ys r = omega (arith, sizes_mid xs ys r)
+sizes-sum : (rs : List Record) → sizes rs ≡ sum_by (λ r. r.size) rs
+sizes-sum rs = is_sum_by sizes (λ r. r.size) refl (λ _ _. refl) rs
 
 abbrev EndsBy : ℕ → Record → Type 0
 EndsBy used r = r.start + r.size ≤ used
@@ -105,7 +89,7 @@ module _ (t : Table) (new : List Record) (at : ℕ) (s : Side) (p : ℕ) (put : 
   old = take t.count t.records
 
   pub sum_more : sizes (take (t.count + 1) new) ≡ t.used + length put
-  sum_more = ap sizes rows ∙ sizes_mid (take at old) (drop at old) added ∙ ap (λ l. sizes l + length put) (take-append-drop at old) ∙ ap (λ k. k + length put) t.sum
+  sum_more = ap sizes rows ∙ sizes-sum (inserted old at added) ∙ sum_by-insert (λ r. r.size) old at added ∙ ap (λ k. k + length put) (sym (sizes-sum old) ∙ t.sum)
 
   pub positions-more : map position_of (take (t.count + 1) new) ≡ inserted (positions t) at p
   positions-more =

@@ -2,7 +2,7 @@
 use Rattle.std.proofs.Common.{◌≡◌, ℕ, true, ◌&&◌, eqb, List, [], ◌∷◌, ◌++◌, Decides, sym, refl, ap, ◌∙◌, ap₂, ⊎_elim}
 use Rattle.std.proofs.lemmas.List.{append-nil}
 use Rattle.std.proofs.lemmas.Bool.{eq-eqb, eqb-true, and_parts, and_from, or_cases, or_left, or_right, true≢false}
-use Rattle.std.proofs.lemmas.Bool.Decides.{Decides-by_or}
+use Rattle.std.proofs.lemmas.Bool.Decides.{Decides-by_or, Decides-like, Decides-and, Decides-eqb}
 use Rattle.comments.specs.declared.types.Side.{Side}
 use Rattle.comments.specs.Notes.{Note, number, begins, has, told, answers}
 use Rattle.comments.specs.Laws.{Stands, HasIsStanding, Answering, ToldExactly}
@@ -44,18 +44,13 @@ has_is_standing t nd = (has_is t nd, λ s. ap (λ l. has l nd) s.2 ∙ is_has s.
 pub has_itself : (t : List ℕ) → has t t ≡ true
 has_itself t = (has_is_standing t t).1 ([], [], sym (append-nil t))
 
-module _ (s : Side) (p : ℕ) (nd : List ℕ) where
-  answering : (n : Note) → Decides (answers s p nd n) (Answering s p nd n)
-  answering n = (
-    (λ e.
-        let a = and_parts (eqb (number n.side) (number s)) (eqb n.position p && has n.text nd) e in
-        let b = and_parts (eqb n.position p) (has n.text nd) a.1 in
-        record { side_is = same-side n.side s (eqb-true (number n.side) (number s) a.0); position_is = eqb-true n.position p b.0; stands = has_is n.text nd b.1 }),
-    (λ a.
-        and_from (eqb (number n.side) (number s)) (eqb n.position p && has n.text nd)
-        (eq-eqb (number n.side) (number s) (ap number a.side_is))
-        (and_from (eqb n.position p) (has n.text nd) (eq-eqb n.position p a.position_is) ((has_is_standing n.text nd).1 a.stands))),
-  )
+answering : (s : Side) (p : ℕ) (nd : List ℕ) (n : Note) → Decides (answers s p nd n) (Answering s p nd n)
+answering s p nd n =
+    Decides-like (answers s p nd n)
+    (λ h. record { side_is = same-side n.side s h.0; position_is = h.1.0; stands = h.1.1 })
+    (λ a. (ap number a.side_is, (a.position_is, a.stands)))
+    (Decides-and (eqb (number n.side) (number s)) (eqb n.position p && has n.text nd) (Decides-eqb (number n.side) (number s))
+    (Decides-and (eqb n.position p) (has n.text nd) (Decides-eqb n.position p) (has_is_standing n.text nd)))
 
 pub told_exactly : ToldExactly
 told_exactly held s p nd = Decides-by_or (answers s p nd) (Answering s p nd) (λ ns. told ns s p nd) (answering s p nd) refl (λ _ _. refl) held

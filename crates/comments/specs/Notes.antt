@@ -1,6 +1,7 @@
 -- The notes that a store holds, order aside: a list in ascending order, so that two stores that hold the same notes have equal values.
 use Rattle.std.specs.Prelude.{ℕ, ◌+◌, Bool, true, false, cond, ◌&&◌, ◌||◌, List, [], ◌∷◌, length, Ok, Err, Result, ◌==◌, nat_le, nat_lt}
 use Rattle.comments.specs.declared.types.Full.{Full}
+use Rattle.comments.specs.declared.types.NoSide.{NoSide}
 use Rattle.comments.specs.declared.types.Side.{Side}
 use Rattle.comments.specs.declared.types.Side.TheVariants.{Leading, Trailing}
 
@@ -16,6 +17,10 @@ a_note s p t = record { side = s; position = p; text = t }
 abbrev pub number : Side → ℕ
 number Leading = 0
 number Trailing = 1
+
+-- the side that a number names
+abbrev pub side_numbered : ℕ → Result Side NoSide
+side_numbered n = cond (n == 0) (Ok Leading) (cond (n == 1) (Ok Trailing) (Err (record {})))
 
 -- the order of notes: by side, then position, then text
 abbrev pub upto : List ℕ → List ℕ → Bool

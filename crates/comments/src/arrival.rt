@@ -31,9 +31,10 @@ impl Comments for Arrival {
     }
 
     fn ask(&self, side: Side, position: u32, needle: &[u8]) -> bool {
+        // Searches are loops with labels, left from inside at a match.
         let mut found = false;
-        'notes: for i in 0..self.table.count {
-            if self.table.answers(i, side, position, needle) {
+        'notes: for note in self.table.notes() {
+            if self.table.answers(note, side, position, needle) {
                 found = true;
                 break 'notes;
             }

@@ -29,11 +29,9 @@ impl ByPosition {
         ensures within { result ≤ self.now.table.count }
         ensures order { ascending (insert (positions self.now.table) result position) ≡ true }
     {
-        let mut at = 0;
-        while at < self.table.count && !self.table.is_after(at, position) {
-            at += 1;
-        }
-        at
+        self.table
+            .notes()
+            .partition_point(|note| note.position <= position)
     }
 }
 
@@ -46,12 +44,13 @@ impl Comments for ByPosition {
     }
 
     fn ask(&self, side: Side, position: u32, needle: &[u8]) -> bool {
+        // Searches are loops with labels, left from inside at a match. Not shared with the other store: this one leaves at a later position.
         let mut found = false;
-        'notes: for i in 0..self.table.count {
-            if self.table.is_after(i, position) {
+        'notes: for note in self.table.notes() {
+            if note.position > position {
                 break 'notes;
             }
-            if self.table.answers(i, side, position, needle) {
+            if self.table.answers(note, side, position, needle) {
                 found = true;
                 break 'notes;
             }

@@ -16,7 +16,7 @@ mod types;
 pub use arrival::Arrival;
 pub use by_position::ByPosition;
 pub use laws::{found_again, order_aside, refused_exactly, told_exactly};
-pub use types::{Full, Side};
+pub use types::{Full, NoSide, Side};
 
 pub trait Comments {
     // The notes since the last clear, order aside.

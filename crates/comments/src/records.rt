@@ -1,7 +1,7 @@
 use crate::types::Side;
 
 // One note: its side and position, and where its text lies among the bytes of the table.
-#[derive(Clone, Copy)]
+#[derive(Clone, Copy, Debug, PartialEq, Eq)]
 pub(crate) struct Record {
     pub(crate) side: Side,
     pub(crate) position: u32,

@@ -1,24 +1,15 @@
-ghost use Rattle.std.specs.Prelude.{◌≡◌, ◌+◌, ◌-◌, length};
+ghost use Rattle.std.specs.Prelude.{◌≡◌};
 ghost use Rattle.comments.specs.Notes.{has};
-
-// At how many places of the text the needle may begin.
-fn start_places(text: &[u8], needle: &[u8]) -> usize
-    ensures { result ≡ length text.now + 1 - length needle.now }
-{
-    if needle.len() > text.len() {
-        return 0;
-    }
-    text.len() - needle.len() + 1
-}
 
 // Whether the needle stands in the text as consecutive bytes. An empty needle stands in every text.
 pub(crate) fn contains(text: &[u8], needle: &[u8]) -> bool
     ensures { result ≡ has text.now needle.now }
 {
+    // Searches are loops with labels, left from inside at a match; places are counted, since `windows` would make the empty needle a case apart.
     let mut found = false;
-    'places: for at in 0..start_places(text, needle) {
-        'bytes: for k in 0..needle.len() {
-            if text[at + k] != needle[k] {
+    'places: for at in 0..(text.len() + 1).saturating_sub(needle.len()) {
+        'bytes: for (a, b) in text[at..].iter().zip(needle) {
+            if a != b {
                 continue 'places;
             }
         }

@@ -9,6 +9,7 @@ pub(crate) const NOTES: usize = 512;
 
 pub(crate) const BYTES: usize = 16384;
 
+// Arrays with a count beside them: the memory of a store is fixed, and there is no heap.
 #[derive(Drop)]
 pub(crate) struct Table {
     pub(crate) count: usize,

@@ -1,8 +1,9 @@
 // What both stores do with their table.
-ghost use Rattle.std.specs.Prelude.{◌≡◌, ◌+◌, ◌<◌, ◌≤◌, [], ◌++◌, length, take, drop, if◌then◌else◌, Decides, nat_lt};
+ghost use Rattle.std.specs.Prelude.{◌≡◌, ◌+◌, ◌<◌, ◌≤◌, [], ◌++◌, length, take, drop, if◌then◌else◌, Decides};
 ghost use Rattle.std.specs.List.{insert};
 ghost use Rattle.comments.specs.Notes.{a_note, answers, noted, noted_answer, room};
-ghost use Rattle.comments.specs.Tables.{held, note_at, positions};
+ghost use Rattle.comments.specs.Records.{read};
+ghost use Rattle.comments.specs.Tables.{held, positions};
 
 use crate::records::Record;
 use crate::search::contains;
@@ -15,12 +16,8 @@ fn insert_record(records: &mut [Record], count: usize, at: usize, added: Record)
     requires at_le_count { at ≤ count }
     ensures { take (count + 1) records.new ≡ insert (take count records.old) at added }
 {
-    let mut free = count;
-    while free > at {
-        records[free] = records[free - 1];
-        free -= 1;
-    }
-    records[free] = added;
+    records.copy_within(at..count, at + 1);
+    records[at] = added;
 }
 
 // Writes a text over the bytes from a place on.
@@ -59,6 +56,7 @@ impl Table {
     }
 
     // Puts a note at a place among the records, and its text behind the others; refuses exactly if it has no room.
+    // The parts of a note come one by one, as the trait hands them over: a struct would be made only to be taken apart here.
     pub(crate) fn insert(
         &mut self,
         at: usize,
@@ -93,24 +91,21 @@ impl Table {
         Ok(count + 1)
     }
 
-    // Whether the note at a place is of a later position.
-    pub(crate) fn is_after(&self, i: usize, position: u32) -> bool
-        requires { i < self.now.count }
-        ensures { result ≡ nat_lt position (note_at self.now i).position }
+    // The records of the notes that stand.
+    pub(crate) fn notes(&self) -> &[Record]
+        ensures { result.now ≡ take self.now.count self.now.records }
     {
-        self.records[i].position > position
+        &self.records[..self.count]
     }
 
-    // Whether the note at a place is of this side and position, and has the needle.
-    pub(crate) fn answers(&self, i: usize, side: Side, position: u32, needle: &[u8]) -> bool
-        requires { i < self.now.count }
-        ensures { result ≡ answers side position needle.now (note_at self.now i) }
+    // Whether a note is of this side and position, and has the needle.
+    pub(crate) fn answers(&self, note: &Record, side: Side, position: u32, needle: &[u8]) -> bool
+        requires { note.now.start + note.now.size ≤ self.now.used }
+        ensures { result ≡ answers side position needle.now (read self.now.bytes note.now) }
     {
-        let note = self.records[i];
-        if note.side != side || note.position != position {
-            return false;
-        }
-        contains(&self.bytes[note.start..note.start + note.size], needle)
+        note.side == side
+            && note.position == position
+            && contains(&self.bytes[note.start..note.start + note.size], needle)
     }
 
     // Lets every note go.

@@ -2,7 +2,13 @@
 #![tactic(auto)]
 
 mod in_tables;
+mod lent;
+mod notes;
 mod steps;
+mod stop;
 
-pub use in_tables::instrument_in_tables;
-pub use steps::{Call, Done, Stop, instrument, print_module, run_module, take_notes};
+pub use in_tables::{LARGEST, Tables, instrument_in_tables};
+pub use lent::Lent;
+pub use notes::take_notes;
+pub use steps::{Files, instrument, print_module, run_module};
+pub use stop::{Call, Done, Stop};

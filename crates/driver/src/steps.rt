@@ -1,107 +1,39 @@
-// The steps from a module's files to its instrumented text.
+// The steps from a module's files to its instrumented text, in tables that a caller has. They are handed one by one: the pass may work for several
+// modules, and what each call leaves is told of each table by its name.
+ghost use Rattle.std.specs.Prelude.{◌≡◌, ◌≤◌, length, take, IfOk};
+ghost use Rattle.walk.specs.Trees.{Tree, flat};
+ghost use Rattle.grammar.specs.Forms.{printed};
+ghost use Rattle.printer.specs.Held.{held};
+ghost use Rattle.printer.specs.Printing.{answer, after};
+ghost use Rattle.refresh.specs.Runs.{Leaves, Settled, Unchanged};
+ghost use Rattle.form.specs.Printing.{Printed};
+ghost use Rattle.driver.specs.Asked.{asked};
+
+use crate::notes::take_notes;
+use crate::stop::{Call, Done, Stop};
 use comments::Comments;
 use form::{load, print};
-use input::{Settings, cut, line_end, note_line};
-use refresh::{HookRegister, RefreshOptions, Sizes};
-use session::note;
-use tables::{Fault, Module, Node};
+use input::Settings;
+use refresh::{HookRegister, RefreshOptions};
+use tables::{Fault, Module, Node, Sizes};
 
-#[derive(Clone, Copy)]
-pub enum Call {
-    Load,
-    Note,
-    Run,
-    Print,
+// What the files of a module hold.
+#[derive(Clone, Copy, Debug, PartialEq, Eq)]
+pub struct Files<'a> {
+    pub form: &'a [u8],
+    pub source: &'a [u8],
+    pub notes: &'a [u8],
+    pub settings: Settings<'a>,
 }
 
-// Why a program stops: a call is refused, or a line of the notes, counted from 1, is no note.
-#[derive(Clone, Copy)]
-pub enum Stop {
-    Refused(Call, Fault),
-    NoteLine(usize),
-}
-
-// What was done.
-#[derive(Clone, Copy)]
-pub struct Done {
-    pub loaded: usize,
-    pub notes: usize,
-    pub added: usize,
-    pub printed: usize,
-}
-
-// Notes what a line says.
-fn take_note<C: Comments>(
-    comments: &mut C,
-    source: &[u8],
-    line: &[u8],
-    scratch: &mut [u8],
-    number: usize,
-) -> Result<usize, Stop> {
-    let Some(read) = note_line(line, scratch) else {
-        return Err(Stop::NoteLine(number));
-    };
-    match note(
-        comments,
-        source,
-        read.side,
-        read.position,
-        cut(scratch, 0, read.len),
-    ) {
-        Ok(held) => Ok(held),
-        Err(fault) => Err(Stop::Refused(Call::Note, fault)),
-    }
-}
-
-// Notes the lines of a file, and answers the notes held. `scratch` has room for the longest text.
-pub fn take_notes<C: Comments>(
-    comments: &mut C,
-    source: &[u8],
-    notes: &[u8],
-    scratch: &mut [u8],
-) -> Result<usize, Stop> {
-    let mut held = 0;
-    let mut at = 0;
-    let mut number: usize = 0;
-    while at < notes.len() {
-        let end = line_end(notes, at);
-        number = number.saturating_add(1);
-        held = take_note(comments, source, cut(notes, at, end), scratch, number)?;
-        at = end.saturating_add(1);
-    }
-    Ok(held)
-}
-
-fn options<'a>(settings: &Settings<'a>) -> Option<RefreshOptions<'a>> {
-    if settings.given {
-        Some(RefreshOptions {
-            refresh_reg: settings.reg,
-            refresh_sig: settings.sig,
-            emit_full_signatures: settings.full,
-        })
-    } else {
-        None
-    }
-}
-
-// Prints the module of some sizes in its tables.
-pub fn print_module(
-    nodes: &[Node],
-    text: &[u8],
-    source: &[u8],
-    sizes: Sizes,
-    out: &mut [u8],
-) -> Result<usize, Fault> {
-    let m = Module {
-        nodes: cut_nodes(nodes, sizes.nodes),
-        text,
-        source,
-    };
-    print(&m, out)
-}
-
-fn cut_nodes(nodes: &[Node], n: usize) -> &[Node] {
-    if n < nodes.len() { &nodes[0..n] } else { nodes }
+fn options<'a>(settings: &Settings<'a>) -> Option<RefreshOptions<'a>>
+    ensures { result ≡ asked settings.now }
+{
+    settings.given.then_some(RefreshOptions {
+        refresh_reg: settings.reg,
+        refresh_sig: settings.sig,
+        emit_full_signatures: settings.full,
+    })
 }
 
 // Runs over a loaded module.
@@ -114,7 +46,10 @@ pub fn run_module<C: Comments>(
     stack: &mut [u16],
     settings: &Settings,
     comments: &C,
-) -> Result<Sizes, Fault> {
+) -> Result<Sizes, Fault>
+    ensures leaves { Leaves nodes.old text.old loaded.text result nodes.new text.new }
+    ensures settled { Settled settings.now.dev (asked settings.now) loaded result (Unchanged nodes.old text.old nodes.new text.new) }
+{
     pass.run(
         nodes,
         text,
@@ -127,19 +62,30 @@ pub fn run_module<C: Comments>(
     )
 }
 
-fn refused<T>(call: Call, r: Result<T, Fault>) -> Result<T, Stop> {
-    match r {
-        Ok(x) => Ok(x),
-        Err(fault) => Err(Stop::Refused(call, fault)),
-    }
+// Prints the module of some sizes in its tables.
+pub fn print_module(
+    nodes: &[Node],
+    text: &[u8],
+    source: &[u8],
+    sizes: Sizes,
+    out: &mut [u8],
+) -> Result<usize, Fault>
+    ensures answer { (t : Tree) → take sizes.nodes nodes.now ≡ flat t → result ≡ answer (printed (held text.now t)) out.old }
+    ensures after { (t : Tree) → take sizes.nodes nodes.now ≡ flat t → out.new ≡ after (printed (held text.now t)) out.old }
+    ensures kept { Printed out.old result out.new }
+{
+    let nodes = nodes.get(..sizes.nodes).unwrap_or(nodes);
+    let m = Module {
+        nodes,
+        text,
+        source,
+    };
+    print(&m, out)
 }
 
-// Loads, notes, runs and prints.
+// Loads, notes, runs and prints. `scratch` has room for the longest text of a note.
 pub fn instrument<C: Comments>(
-    form: &[u8],
-    source: &[u8],
-    notes: &[u8],
-    settings: &Settings,
+    files: &Files,
     pass: &mut HookRegister,
     nodes: &mut [Node],
     text: &mut [u8],
@@ -147,22 +93,29 @@ pub fn instrument<C: Comments>(
     comments: &mut C,
     scratch: &mut [u8],
     out: &mut [u8],
-) -> Result<Done, Stop> {
-    let loaded = refused(Call::Load, load(form, source, nodes, text))?;
-    let held = take_notes(comments, source, notes, scratch)?;
-    let before = Sizes {
-        nodes: loaded.nodes,
-        text: loaded.text,
-    };
-    let after = refused(
-        Call::Run,
-        run_module(pass, nodes, text, before, source, stack, settings, comments),
-    )?;
-    let printed = refused(Call::Print, print_module(nodes, text, source, after, out))?;
+) -> Result<Done, Stop>
+    ensures { IfOk result (λ d. d.printed ≤ length out.old) }
+{
+    let Files {
+        form,
+        source,
+        notes,
+        settings,
+    } = *files;
+    let loaded = load(form, source, nodes, text).map_err(|fault| Stop::Refused(Call::Load, fault))?;
+    let notes = take_notes(comments, source, notes, scratch)?;
+    let ran = run_module(
+        pass, nodes, text, loaded, source, stack, &settings, comments,
+    )
+    .map_err(|fault| Stop::Refused(Call::Run, fault))?;
+    let printed = print_module(nodes, text, source, ran, out).map_err(|fault| Stop::Refused(
+        Call::Print,
+        fault,
+    ))?;
     Ok(Done {
         loaded: loaded.nodes,
-        notes: held,
-        added: after.nodes.saturating_sub(loaded.nodes),
+        notes,
+        added: ran.nodes.saturating_sub(loaded.nodes),
         printed,
     })
 }

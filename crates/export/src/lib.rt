@@ -4,11 +4,11 @@
 mod answer;
 mod steps;
 
-use answer::{answer, code};
-use driver::instrument_in_tables;
-use input::{defaults, read_settings};
+use answer::{answer, bad_line};
+use driver::{Files, instrument_in_tables};
+use input::{Settings, read_settings};
 
-// Longer than the texts of all notes that a store takes.
+// Longer than the texts of all notes that a store takes: a fixed array, as there is no heap.
 const LINE: usize = 65536;
 
 // Instruments a module over tables for `n` nodes. Notes and options are the texts of their files. A bad line of options has
@@ -22,11 +22,17 @@ pub extern "C" fn hufalimpy_instrument(
     n: usize,
     out: &mut [u8],
 ) -> u64 {
-    match read_settings(options, defaults()) {
+    match read_settings(options, Settings::default()) {
         Ok(settings) => {
+            let files = Files {
+                form,
+                source,
+                notes,
+                settings,
+            };
             let mut scratch = [0u8; LINE];
-            answer(instrument_in_tables(form, source, notes, &settings, n, &mut scratch, out))
+            answer(instrument_in_tables(&files, n, &mut scratch, out))
         }
-        Err(line) => code(0, line),
+        Err(line) => bad_line(line),
     }
 }

@@ -1,10 +1,8 @@
-// The text form of a module: the reader that loads it, the printer that writes it.
+// The text form of a module: loading it into tables, and printing it from them.
 #![tactic(auto)]
 
-mod grammar;
-mod printer;
-mod reader;
-mod words;
+mod loading;
+mod printing;
 
-pub use printer::print;
-pub use reader::{Loaded, load};
+pub use loading::load;
+pub use printing::print;

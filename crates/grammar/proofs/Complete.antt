@@ -16,101 +16,31 @@ use Rattle.grammar.proofs.Wanted.{left, Meant, Place, plain, jsx, group_of, same
 -- groups that stop a run of parts are told apart
 
 pattern_param : (g : Group) → belongs Sort.Pattern g ≡ true → params_part g ≡ Some Rest.Params
-pattern_param Group.Module b = absurd (false≢true b)
-pattern_param Group.Item b = absurd (false≢true b)
-pattern_param Group.Statement b = absurd (false≢true b)
-pattern_param Group.Declaration b = absurd (false≢true b)
-pattern_param Group.Block b = absurd (false≢true b)
 pattern_param Group.Ident b = refl
-pattern_param Group.Member b = absurd (false≢true b)
-pattern_param Group.Expression b = absurd (false≢true b)
 pattern_param Group.Pattern b = refl
-pattern_param Group.Decl b = absurd (false≢true b)
-pattern_param Group.Prop b = absurd (false≢true b)
-pattern_param Group.Attr b = absurd (false≢true b)
-pattern_param Group.Kwimport b = absurd (false≢true b)
-pattern_param Group.Made b = absurd (false≢true b)
+pattern_param g b = absurd (false≢true b)
 
 expression_child : (g : Group) → belongs Sort.Expression g ≡ true → attrs_part g ≡ Some Rest.Exprs
-expression_child Group.Module b = absurd (false≢true b)
-expression_child Group.Item b = absurd (false≢true b)
-expression_child Group.Statement b = absurd (false≢true b)
-expression_child Group.Declaration b = absurd (false≢true b)
-expression_child Group.Block b = absurd (false≢true b)
 expression_child Group.Ident b = refl
 expression_child Group.Member b = refl
 expression_child Group.Expression b = refl
-expression_child Group.Pattern b = absurd (false≢true b)
-expression_child Group.Decl b = absurd (false≢true b)
-expression_child Group.Prop b = absurd (false≢true b)
-expression_child Group.Attr b = absurd (false≢true b)
-expression_child Group.Kwimport b = absurd (false≢true b)
-expression_child Group.Made b = absurd (false≢true b)
+expression_child g b = absurd (false≢true b)
 
 pattern_arrow : (g : Group) → belongs Sort.Pattern g ≡ true → (arrow_part g ≡ Some Rest.ArrowOrBody) ⊎ (arrow_part g ≡ Some Rest.Arrow)
-pattern_arrow Group.Module b = absurd (false≢true b)
-pattern_arrow Group.Item b = absurd (false≢true b)
-pattern_arrow Group.Statement b = absurd (false≢true b)
-pattern_arrow Group.Declaration b = absurd (false≢true b)
-pattern_arrow Group.Block b = absurd (false≢true b)
 pattern_arrow Group.Ident b = inl refl
-pattern_arrow Group.Member b = absurd (false≢true b)
-pattern_arrow Group.Expression b = absurd (false≢true b)
 pattern_arrow Group.Pattern b = inr refl
-pattern_arrow Group.Decl b = absurd (false≢true b)
-pattern_arrow Group.Prop b = absurd (false≢true b)
-pattern_arrow Group.Attr b = absurd (false≢true b)
-pattern_arrow Group.Kwimport b = absurd (false≢true b)
-pattern_arrow Group.Made b = absurd (false≢true b)
+pattern_arrow g b = absurd (false≢true b)
 
 body_arrow : (g : Group) → belongs Sort.Body g ≡ true → (arrow_part g ≡ Some Rest.ArrowOrBody) ⊎ (arrow_part g ≡ Some Rest.Done)
-body_arrow Group.Module b = absurd (false≢true b)
-body_arrow Group.Item b = absurd (false≢true b)
-body_arrow Group.Statement b = absurd (false≢true b)
-body_arrow Group.Declaration b = absurd (false≢true b)
 body_arrow Group.Block b = inr refl
 body_arrow Group.Ident b = inl refl
 body_arrow Group.Member b = inr refl
 body_arrow Group.Expression b = inr refl
-body_arrow Group.Pattern b = absurd (false≢true b)
-body_arrow Group.Decl b = absurd (false≢true b)
-body_arrow Group.Prop b = absurd (false≢true b)
-body_arrow Group.Attr b = absurd (false≢true b)
-body_arrow Group.Kwimport b = absurd (false≢true b)
-body_arrow Group.Made b = absurd (false≢true b)
+body_arrow g b = absurd (false≢true b)
 
 only_module : (k : Kind) → belongs Sort.Module (group k) ≡ true → k ≡ Kind.Module
 only_module Kind.Module b = refl
-only_module Kind.Import b = absurd (false≢true b)
-only_module Kind.Export b = absurd (false≢true b)
-only_module Kind.Deffn b = absurd (false≢true b)
-only_module Kind.Defexpr b = absurd (false≢true b)
-only_module Kind.Expr b = absurd (false≢true b)
-only_module Kind.Var b = absurd (false≢true b)
-only_module Kind.Func b = absurd (false≢true b)
-only_module Kind.Return b = absurd (false≢true b)
-only_module Kind.If b = absurd (false≢true b)
-only_module Kind.Block b = absurd (false≢true b)
-only_module Kind.Id b = absurd (false≢true b)
-only_module Kind.Lit b = absurd (false≢true b)
-only_module Kind.Call b = absurd (false≢true b)
-only_module Kind.Member b = absurd (false≢true b)
-only_module Kind.Array b = absurd (false≢true b)
-only_module Kind.Op b = absurd (false≢true b)
-only_module Kind.Assign b = absurd (false≢true b)
-only_module Kind.Arrow b = absurd (false≢true b)
-only_module Kind.Fn b = absurd (false≢true b)
-only_module Kind.Tagged b = absurd (false≢true b)
-only_module Kind.Jsx b = absurd (false≢true b)
-only_module Kind.Pat b = absurd (false≢true b)
-only_module Kind.Dflt b = absurd (false≢true b)
-only_module Kind.Decl b = absurd (false≢true b)
-only_module Kind.Prop b = absurd (false≢true b)
-only_module Kind.Attr b = absurd (false≢true b)
-only_module Kind.Kwimport b = absurd (false≢true b)
-only_module Kind.Hand b = absurd (false≢true b)
-only_module Kind.Str b = absurd (false≢true b)
-only_module Kind.Bool b = absurd (false≢true b)
+only_module k b = absurd (false≢true b)
 
 module _ (limit : ℕ) where
   abbrev Wanted : Rest → Forms → Type 0
@@ -193,69 +123,39 @@ module _ (limit : ℕ) where
   advanced Rest.Top t fs m = absurd m
   advanced Rest.Done t fs m = absurd (fit_none m)
   advanced Rest.Item t fs m = absurd m
-  advanced Rest.Idents t fs m = single Rest.Idents Sort.Ident Rest.Idents t fs (plain refl refl refl) refl (fit_many m)
-  advanced Rest.Exported t fs m = single Rest.Exported Sort.Exported Rest.Done t fs (plain refl refl refl) refl (fit_one m)
-  advanced Rest.NameOrNone t fs m = single Rest.NameOrNone Sort.Ident Rest.Params t fs (plain refl refl refl) refl (fit_one m)
-  advanced Rest.Name t fs m = single Rest.Name Sort.Ident Rest.Params t fs (plain refl refl refl) refl (fit_one m)
+  advanced Rest.Idents t fs m = single Rest.Idents _ _ t fs (plain refl refl refl) refl (fit_many m)
   advanced Rest.Params t fs m = params t fs m
-  advanced Rest.Expr t fs m = single Rest.Expr Sort.Expression Rest.Done t fs (plain refl refl refl) refl (fit_one m)
-  advanced Rest.MaybeExpr t fs m = single Rest.MaybeExpr Sort.Expression Rest.Done t fs (plain refl refl refl) refl (fit_maybe m)
-  advanced Rest.FirstDecl t fs m = single Rest.FirstDecl Sort.Decl Rest.Decls t fs (plain refl refl refl) refl (fit_one m)
-  advanced Rest.Decls t fs m = single Rest.Decls Sort.Decl Rest.Decls t fs (plain refl refl refl) refl (fit_many m)
-  advanced Rest.Test t fs m = single Rest.Test Sort.Expression Rest.Then t fs (plain refl refl refl) refl (fit_one m)
-  advanced Rest.Then t fs m = single Rest.Then Sort.Statement Rest.Else t fs (plain refl refl refl) refl (fit_one m)
-  advanced Rest.Else t fs m = single Rest.Else Sort.Statement Rest.Done t fs (plain refl refl refl) refl (fit_maybe m)
-  advanced Rest.Statements t fs m = single Rest.Statements Sort.Statement Rest.Statements t fs (plain refl refl refl) refl (fit_many m)
-  advanced Rest.Exprs t fs m = single Rest.Exprs Sort.Expression Rest.Exprs t fs (plain refl refl refl) refl (fit_many m)
-  advanced Rest.Callee t fs m = single Rest.Callee Sort.Callee Rest.Exprs t fs (plain refl refl refl) refl (fit_one m)
-  advanced Rest.Tag t fs m = single Rest.Tag Sort.Expression Rest.Exprs t fs (plain refl refl refl) refl (fit_one m)
-  advanced Rest.Object t fs m = single Rest.Object Sort.Expression Rest.Property t fs (plain refl refl refl) refl (fit_one m)
-  advanced Rest.NameObject t fs m = single Rest.NameObject Sort.JsxName Rest.Property t fs (jsx refl refl refl) refl (fit_one m)
-  advanced Rest.Property t fs m = single Rest.Property Sort.Prop Rest.Done t fs (plain refl refl refl) refl (fit_one m)
-  advanced Rest.Operand t fs m = single Rest.Operand Sort.Expression Rest.Second t fs (plain refl refl refl) refl (fit_one m)
-  advanced Rest.Second t fs m = single Rest.Second Sort.Expression Rest.MaybeExpr t fs (plain refl refl refl) refl (fit_two m)
-  advanced Rest.Target t fs m = single Rest.Target Sort.Target Rest.Expr t fs (plain refl refl refl) refl (fit_one m)
+  advanced Rest.MaybeExpr t fs m = single Rest.MaybeExpr _ _ t fs (plain refl refl refl) refl (fit_maybe m)
+  advanced Rest.Decls t fs m = single Rest.Decls _ _ t fs (plain refl refl refl) refl (fit_many m)
+  advanced Rest.Else t fs m = single Rest.Else _ _ t fs (plain refl refl refl) refl (fit_maybe m)
+  advanced Rest.Statements t fs m = single Rest.Statements _ _ t fs (plain refl refl refl) refl (fit_many m)
+  advanced Rest.Exprs t fs m = single Rest.Exprs _ _ t fs (plain refl refl refl) refl (fit_many m)
+  advanced Rest.NameObject t fs m = single Rest.NameObject _ _ t fs (jsx refl refl refl) refl (fit_one m)
+  advanced Rest.Second t fs m = single Rest.Second _ _ t fs (plain refl refl refl) refl (fit_two m)
   advanced Rest.Arrow t fs m = arrow Rest.Arrow t fs (plain refl refl refl) (plain refl refl refl) refl m
   advanced Rest.ArrowOrBody t fs m = arrow_or_body t fs m
-  advanced Rest.Element t fs m = single Rest.Element Sort.JsxName Rest.Attrs t fs (jsx refl refl refl) refl (fit_one m)
+  advanced Rest.Element t fs m = single Rest.Element _ _ t fs (jsx refl refl refl) refl (fit_one m)
   advanced Rest.Attrs t fs m = attrs t fs m
-  advanced Rest.Patterns t fs m = single Rest.Patterns Sort.Pattern Rest.Patterns t fs (plain refl refl refl) refl (fit_many m)
-  advanced Rest.Defaulted t fs m = single Rest.Defaulted Sort.Pattern Rest.Expr t fs (plain refl refl refl) refl (fit_one m)
-  advanced Rest.Declared t fs m = single Rest.Declared Sort.Pattern Rest.MaybeExpr t fs (plain refl refl refl) refl (fit_one m)
+  advanced Rest.Patterns t fs m = single Rest.Patterns _ _ t fs (plain refl refl refl) refl (fit_many m)
+  advanced r t fs m = single r _ _ t fs (plain refl refl refl) refl (fit_one m)
 
   closed : (r : Rest) → Wanted r nil → closes r ≡ true
   closed Rest.Top m = absurd m
   closed Rest.Done m = refl
   closed Rest.Item m = absurd m
   closed Rest.Idents m = refl
-  closed Rest.Exported m = absurd (wants_one m)
-  closed Rest.NameOrNone m = absurd (wants_one m)
-  closed Rest.Name m = absurd (wants_one m)
   closed Rest.Params m = absurd (wants_last m)
-  closed Rest.Expr m = absurd (wants_one m)
   closed Rest.MaybeExpr m = refl
-  closed Rest.FirstDecl m = absurd (wants_one m)
   closed Rest.Decls m = refl
-  closed Rest.Test m = absurd (wants_one m)
-  closed Rest.Then m = absurd (wants_one m)
   closed Rest.Else m = refl
   closed Rest.Statements m = refl
   closed Rest.Exprs m = refl
-  closed Rest.Callee m = absurd (wants_one m)
-  closed Rest.Tag m = absurd (wants_one m)
-  closed Rest.Object m = absurd (wants_one m)
-  closed Rest.NameObject m = absurd (wants_one m)
-  closed Rest.Property m = absurd (wants_one m)
-  closed Rest.Operand m = absurd (wants_one m)
   closed Rest.Second m = refl
-  closed Rest.Target m = absurd (wants_one m)
   closed Rest.Arrow m = absurd (wants_last m)
   closed Rest.ArrowOrBody m = refl
-  closed Rest.Element m = absurd (wants_one m)
   closed Rest.Attrs m = refl
   closed Rest.Patterns m = refl
-  closed Rest.Defaulted m = absurd (wants_one m)
-  closed Rest.Declared m = absurd (wants_one m)
+  closed r m = absurd (wants_one m)
 
   mutual
     reads : (fs : Forms) (r : Rest) → Wanted r fs → Reads limit r fs

@@ -173,34 +173,16 @@ module _ (limit : ℕ) where
   ended Rest.Done e = none
   ended Rest.Item e = tt
   ended Rest.Idents e = last none
-  ended Rest.Exported e = absurd (false≢true e)
-  ended Rest.NameOrNone e = absurd (false≢true e)
-  ended Rest.Name e = absurd (false≢true e)
-  ended Rest.Params e = absurd (false≢true e)
-  ended Rest.Expr e = absurd (false≢true e)
   ended Rest.MaybeExpr e = missing none
-  ended Rest.FirstDecl e = absurd (false≢true e)
   ended Rest.Decls e = last none
-  ended Rest.Test e = absurd (false≢true e)
-  ended Rest.Then e = absurd (false≢true e)
   ended Rest.Else e = missing none
   ended Rest.Statements e = last none
   ended Rest.Exprs e = last none
-  ended Rest.Callee e = absurd (false≢true e)
-  ended Rest.Tag e = absurd (false≢true e)
-  ended Rest.Object e = absurd (false≢true e)
-  ended Rest.NameObject e = absurd (false≢true e)
-  ended Rest.Property e = absurd (false≢true e)
-  ended Rest.Operand e = absurd (false≢true e)
   ended Rest.Second e = missing (missing none)
-  ended Rest.Target e = absurd (false≢true e)
-  ended Rest.Arrow e = absurd (false≢true e)
   ended Rest.ArrowOrBody e = inr refl
-  ended Rest.Element e = absurd (false≢true e)
   ended Rest.Attrs e = last (last none)
   ended Rest.Patterns e = last none
-  ended Rest.Defaulted e = absurd (false≢true e)
-  ended Rest.Declared e = absurd (false≢true e)
+  ended r e = absurd (false≢true e)
 
   step : {r r' : Rest} {t : Form} → Formed limit r t r' → after r (group_of t) ≡ Some r'
   step (formed e p rs) = e

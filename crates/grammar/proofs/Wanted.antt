@@ -49,37 +49,9 @@ left Rest.Declared = one Sort.Pattern ∷ maybe Sort.Expression ∷ []
 -- forms that may follow in a state; a module's items do not end by a bracket, and of the states outside every form q is said
 abbrev pub Meant : (q : Type 0) (limit : ℕ) → Rest → Forms → Type 0
 Meant q limit Rest.Top fs = q
-Meant q limit Rest.Done fs = Fit limit (left Rest.Done) fs
 Meant q limit Rest.Item fs = q
-Meant q limit Rest.Idents fs = Fit limit (left Rest.Idents) fs
-Meant q limit Rest.Exported fs = Fit limit (left Rest.Exported) fs
-Meant q limit Rest.NameOrNone fs = Fit limit (left Rest.NameOrNone) fs
-Meant q limit Rest.Name fs = Fit limit (left Rest.Name) fs
-Meant q limit Rest.Params fs = Fit limit (left Rest.Params) fs
-Meant q limit Rest.Expr fs = Fit limit (left Rest.Expr) fs
-Meant q limit Rest.MaybeExpr fs = Fit limit (left Rest.MaybeExpr) fs
-Meant q limit Rest.FirstDecl fs = Fit limit (left Rest.FirstDecl) fs
-Meant q limit Rest.Decls fs = Fit limit (left Rest.Decls) fs
-Meant q limit Rest.Test fs = Fit limit (left Rest.Test) fs
-Meant q limit Rest.Then fs = Fit limit (left Rest.Then) fs
-Meant q limit Rest.Else fs = Fit limit (left Rest.Else) fs
-Meant q limit Rest.Statements fs = Fit limit (left Rest.Statements) fs
-Meant q limit Rest.Exprs fs = Fit limit (left Rest.Exprs) fs
-Meant q limit Rest.Callee fs = Fit limit (left Rest.Callee) fs
-Meant q limit Rest.Tag fs = Fit limit (left Rest.Tag) fs
-Meant q limit Rest.Object fs = Fit limit (left Rest.Object) fs
-Meant q limit Rest.NameObject fs = Fit limit (left Rest.NameObject) fs
-Meant q limit Rest.Property fs = Fit limit (left Rest.Property) fs
-Meant q limit Rest.Operand fs = Fit limit (left Rest.Operand) fs
-Meant q limit Rest.Second fs = Fit limit (left Rest.Second) fs
-Meant q limit Rest.Target fs = Fit limit (left Rest.Target) fs
-Meant q limit Rest.Arrow fs = Fit limit (left Rest.Arrow) fs
 Meant q limit Rest.ArrowOrBody fs = Fit limit (left Rest.Arrow) fs ⊎ (fs ≡ nil)
-Meant q limit Rest.Element fs = Fit limit (left Rest.Element) fs
-Meant q limit Rest.Attrs fs = Fit limit (left Rest.Attrs) fs
-Meant q limit Rest.Patterns fs = Fit limit (left Rest.Patterns) fs
-Meant q limit Rest.Defaulted fs = Fit limit (left Rest.Defaulted) fs
-Meant q limit Rest.Declared fs = Fit limit (left Rest.Declared) fs
+Meant q limit r fs = Fit limit (left r) fs
 
 -- a state at which a part of sort w may stand: a member there is of what the sort says
 pub data Place : Rest → Sort → Type 0 where
@@ -92,14 +64,7 @@ group_of (form s fs) = group s.kind
 module _ (q : Type 0) (limit : ℕ) (fs : Forms) where
   functions : (n : Word) → ◌≡◌ {A = Type 0} (Meant q limit (by_name n) fs) (Fit limit (named n (left Rest.Params)) fs)
   functions Word.Bare = refl
-  functions Word.Named = refl
-  functions Word.Var = refl
-  functions Word.Let = refl
-  functions Word.Const = refl
-  functions Word.S = refl
-  functions Word.C = refl
-  functions Word.False = refl
-  functions Word.True = refl
+  functions n = refl
 
   members : (r : Rest) (w : Sort) (n : Word) → Place r w → ◌≡◌ {A = Type 0} (Meant q limit (opening (member_object r) n) fs) (Fit limit (one (object w) ∷ one Sort.Prop ∷ []) fs)
   members r w n (plain e f h) = ap (λ x. Meant q limit (opening x n) fs) e ∙ ap (λ x. Fit limit (one x ∷ one Sort.Prop ∷ []) fs) (sym f)
@@ -112,33 +77,7 @@ module _ (q : Type 0) (limit : ℕ) (fs : Forms) where
   -- what stands in a form of a kind is the same by the reader's state and by the table
   pub same_parts : (r : Rest) (w : Sort) (n : Word) (k : Kind) → Place r w → belongs w (group k) ≡ true → ◌≡◌ {A = Type 0} (Meant q limit (opening (inside r k) n) fs) (Fit limit (parts w n k) fs)
   same_parts r w n Kind.Module p b = absurd (no_module r w p b)
-  same_parts r w n Kind.Import p b = refl
-  same_parts r w n Kind.Export p b = refl
   same_parts r w n Kind.Deffn p b = functions n
-  same_parts r w n Kind.Defexpr p b = refl
-  same_parts r w n Kind.Expr p b = refl
-  same_parts r w n Kind.Var p b = refl
-  same_parts r w n Kind.Func p b = refl
-  same_parts r w n Kind.Return p b = refl
-  same_parts r w n Kind.If p b = refl
-  same_parts r w n Kind.Block p b = refl
-  same_parts r w n Kind.Id p b = refl
-  same_parts r w n Kind.Lit p b = refl
-  same_parts r w n Kind.Call p b = refl
   same_parts r w n Kind.Member p b = members r w n p
-  same_parts r w n Kind.Array p b = refl
-  same_parts r w n Kind.Op p b = refl
-  same_parts r w n Kind.Assign p b = refl
-  same_parts r w n Kind.Arrow p b = refl
   same_parts r w n Kind.Fn p b = functions n
-  same_parts r w n Kind.Tagged p b = refl
-  same_parts r w n Kind.Jsx p b = refl
-  same_parts r w n Kind.Pat p b = refl
-  same_parts r w n Kind.Dflt p b = refl
-  same_parts r w n Kind.Decl p b = refl
-  same_parts r w n Kind.Prop p b = refl
-  same_parts r w n Kind.Attr p b = refl
-  same_parts r w n Kind.Kwimport p b = refl
-  same_parts r w n Kind.Hand p b = refl
-  same_parts r w n Kind.Str p b = refl
-  same_parts r w n Kind.Bool p b = refl
+  same_parts r w n k p b = refl

@@ -54,14 +54,7 @@ escaped (b ∷ bs) = escape b ++ escaped bs
 -- a function without a name says `-`
 abbrev pub dash : Word → List ℕ
 dash Word.Bare = 32 ∷ 45 ∷ []
-dash Word.Named = []
-dash Word.Var = []
-dash Word.Let = []
-dash Word.Const = []
-dash Word.S = []
-dash Word.C = []
-dash Word.False = []
-dash Word.True = []
+dash n = []
 
 -- what a form says after its span
 abbrev pub label : Label → Says → List ℕ

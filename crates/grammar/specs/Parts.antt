@@ -16,48 +16,25 @@ Placed limit s = (s.lo ≤ s.hi) × (s.hi ≤ limit) × (s.lo ≡ 0 → s.hi ≡
 
 -- what words may be said
 abbrev pub says_variables : Word → Bool
-says_variables Word.Bare = false
-says_variables Word.Named = false
 says_variables Word.Var = true
 says_variables Word.Let = true
 says_variables Word.Const = true
-says_variables Word.S = false
-says_variables Word.C = false
-says_variables Word.False = false
-says_variables Word.True = false
+says_variables w = false
 
 abbrev pub says_function : Word → Bool
 says_function Word.Bare = true
 says_function Word.Named = true
-says_function Word.Var = false
-says_function Word.Let = false
-says_function Word.Const = false
-says_function Word.S = false
-says_function Word.C = false
-says_function Word.False = false
-says_function Word.True = false
+says_function w = false
 
 abbrev pub says_handle : Word → Bool
-says_handle Word.Bare = false
-says_handle Word.Named = false
-says_handle Word.Var = false
-says_handle Word.Let = false
-says_handle Word.Const = false
 says_handle Word.S = true
 says_handle Word.C = true
-says_handle Word.False = false
-says_handle Word.True = false
+says_handle w = false
 
 abbrev pub says_truth : Word → Bool
-says_truth Word.Bare = false
-says_truth Word.Named = false
-says_truth Word.Var = false
-says_truth Word.Let = false
-says_truth Word.Const = false
-says_truth Word.S = false
-says_truth Word.C = false
 says_truth Word.False = true
 says_truth Word.True = true
+says_truth w = false
 
 -- a form says what its label asks for, and nothing else
 abbrev pub Said : Label → Says → Type 0
@@ -82,33 +59,13 @@ pub data Part : Type 0 where
 
 -- a function that says no `-` has its `id` first
 abbrev pub named : Word → List Part → List Part
-named Word.Bare ps = ps
 named Word.Named ps = one Sort.Ident ∷ ps
-named Word.Var ps = ps
-named Word.Let ps = ps
-named Word.Const ps = ps
-named Word.S ps = ps
-named Word.C ps = ps
-named Word.False ps = ps
-named Word.True ps = ps
+named w ps = ps
 
 -- what a member is of: a jsx name is of a jsx name
 abbrev pub object : Sort → Sort
-object Sort.Module = Sort.Expression
-object Sort.Item = Sort.Expression
-object Sort.Statement = Sort.Expression
-object Sort.Expression = Sort.Expression
-object Sort.Pattern = Sort.Expression
-object Sort.Ident = Sort.Expression
-object Sort.Exported = Sort.Expression
-object Sort.Block = Sort.Expression
-object Sort.Decl = Sort.Expression
-object Sort.Prop = Sort.Expression
-object Sort.Attr = Sort.Expression
-object Sort.Callee = Sort.Expression
-object Sort.Target = Sort.Expression
-object Sort.Body = Sort.Expression
 object Sort.JsxName = Sort.JsxName
+object w = Sort.Expression
 
 -- the parts of a form of a kind that says the word n and stands where w is wanted
 abbrev pub parts : (w : Sort) (n : Word) → Kind → List Part
@@ -123,8 +80,6 @@ parts w n Kind.Func = one Sort.Ident ∷ many Sort.Pattern ∷ one Sort.Block �
 parts w n Kind.Return = maybe Sort.Expression ∷ []
 parts w n Kind.If = one Sort.Expression ∷ one Sort.Statement ∷ maybe Sort.Statement ∷ []
 parts w n Kind.Block = many Sort.Statement ∷ []
-parts w n Kind.Id = []
-parts w n Kind.Lit = []
 parts w n Kind.Call = one Sort.Callee ∷ many Sort.Expression ∷ []
 parts w n Kind.Member = one (object w) ∷ one Sort.Prop ∷ []
 parts w n Kind.Array = many Sort.Expression ∷ []
@@ -137,12 +92,8 @@ parts w n Kind.Jsx = one Sort.JsxName ∷ many Sort.Attr ∷ many Sort.Expressio
 parts w n Kind.Pat = many Sort.Pattern ∷ []
 parts w n Kind.Dflt = one Sort.Pattern ∷ one Sort.Expression ∷ []
 parts w n Kind.Decl = one Sort.Pattern ∷ maybe Sort.Expression ∷ []
-parts w n Kind.Prop = []
 parts w n Kind.Attr = one Sort.Expression ∷ []
-parts w n Kind.Kwimport = []
-parts w n Kind.Hand = []
-parts w n Kind.Str = []
-parts w n Kind.Bool = []
+parts w n k = []
 
 mutual
   -- a form that may stand where w is wanted

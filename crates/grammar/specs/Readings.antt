@@ -9,50 +9,13 @@ use Rattle.grammar.specs.Rests.{after, inside, closes}
 
 -- what follows the `id` or `-` of a function
 abbrev pub by_name : Word → Rest
-by_name Word.Bare = Rest.Params
 by_name Word.Named = Rest.Name
-by_name Word.Var = Rest.Params
-by_name Word.Let = Rest.Params
-by_name Word.Const = Rest.Params
-by_name Word.S = Rest.Params
-by_name Word.C = Rest.Params
-by_name Word.False = Rest.Params
-by_name Word.True = Rest.Params
+by_name w = Rest.Params
 
 -- what a form may have after it has said `-` or not
 abbrev pub opening : Rest → Word → Rest
-opening Rest.Top w = Rest.Top
-opening Rest.Done w = Rest.Done
-opening Rest.Item w = Rest.Item
-opening Rest.Idents w = Rest.Idents
-opening Rest.Exported w = Rest.Exported
 opening Rest.NameOrNone w = by_name w
-opening Rest.Name w = Rest.Name
-opening Rest.Params w = Rest.Params
-opening Rest.Expr w = Rest.Expr
-opening Rest.MaybeExpr w = Rest.MaybeExpr
-opening Rest.FirstDecl w = Rest.FirstDecl
-opening Rest.Decls w = Rest.Decls
-opening Rest.Test w = Rest.Test
-opening Rest.Then w = Rest.Then
-opening Rest.Else w = Rest.Else
-opening Rest.Statements w = Rest.Statements
-opening Rest.Exprs w = Rest.Exprs
-opening Rest.Callee w = Rest.Callee
-opening Rest.Tag w = Rest.Tag
-opening Rest.Object w = Rest.Object
-opening Rest.NameObject w = Rest.NameObject
-opening Rest.Property w = Rest.Property
-opening Rest.Operand w = Rest.Operand
-opening Rest.Second w = Rest.Second
-opening Rest.Target w = Rest.Target
-opening Rest.Arrow w = Rest.Arrow
-opening Rest.ArrowOrBody w = Rest.ArrowOrBody
-opening Rest.Element w = Rest.Element
-opening Rest.Attrs w = Rest.Attrs
-opening Rest.Patterns w = Rest.Patterns
-opening Rest.Defaulted w = Rest.Defaulted
-opening Rest.Declared w = Rest.Declared
+opening r w = r
 
 mutual
   -- a form where r is wanted, after which r' is wanted

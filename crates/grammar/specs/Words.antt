@@ -1,5 +1,5 @@
 -- The words of the text form.
-use Rattle.std.specs.Prelude.{ℕ, cond, List, [], ◌∷◌, Some, None, codes, Option}
+use Rattle.std.specs.Prelude.{ℕ, cond, List, [], ◌∷◌, Some, None, codes, Option, find}
 use Rattle.std.specs.Str.{bytes_eq}
 use Rattle.tables.specs.declared.kind.Kind.{Kind}
 use Rattle.tables.specs.declared.kind.Word.{Word}
@@ -52,8 +52,7 @@ text_of Word.True = codes "true"
 
 -- the first of some kinds that a run of bytes names
 abbrev pub named : List Kind → List ℕ → Option Kind
-named [] bs = None
-named (k ∷ ks) bs = cond (bytes_eq bs (word_of k)) (Some k) (named ks bs)
+named ks bs = find (λ k. bytes_eq bs (word_of k)) ks
 
 -- the kinds that a text to be loaded may have, those that come often first
 abbrev pub kinds : List Kind

@@ -1,11 +1,11 @@
 // Where forms of a kind may stand.
 ghost use Rattle.std.specs.Prelude.{◌≡◌};
-ghost use Rattle.grammar.specs.Groups.{group, groups, order, same_group, belongs};
+ghost use Rattle.grammar.specs.Groups.{group, groups, belongs};
 
 use tables::Kind;
 
 // Kinds that may stand at the same places.
-#[derive(Clone, Copy)]
+#[derive(Clone, Copy, Debug, PartialEq, Eq)]
 pub enum Group {
     Module,
     // only an item
@@ -30,7 +30,7 @@ pub enum Group {
 }
 
 // What is wanted at a place.
-#[derive(Clone, Copy)]
+#[derive(Clone, Copy, Debug, PartialEq, Eq)]
 pub enum Sort {
     Module,
     Item,
@@ -58,36 +58,27 @@ pub fn group_of(kind: Kind) -> Group
 {
     match kind {
         Kind::Module => Group::Module,
-        Kind::Import => Group::Item,
-        Kind::Export => Group::Item,
-        Kind::Deffn => Group::Item,
-        Kind::Defexpr => Group::Item,
-        Kind::Expr => Group::Statement,
-        Kind::Var => Group::Declaration,
-        Kind::Func => Group::Declaration,
-        Kind::Return => Group::Statement,
-        Kind::If => Group::Statement,
+        Kind::Import | Kind::Export | Kind::Deffn | Kind::Defexpr => Group::Item,
+        Kind::Expr | Kind::Return | Kind::If => Group::Statement,
+        Kind::Var | Kind::Func => Group::Declaration,
         Kind::Block => Group::Block,
         Kind::Id => Group::Ident,
-        Kind::Lit => Group::Expression,
-        Kind::Call => Group::Expression,
         Kind::Member => Group::Member,
-        Kind::Array => Group::Expression,
-        Kind::Op => Group::Expression,
-        Kind::Assign => Group::Expression,
-        Kind::Arrow => Group::Expression,
-        Kind::Fn => Group::Expression,
-        Kind::Tagged => Group::Expression,
-        Kind::Jsx => Group::Expression,
-        Kind::Pat => Group::Pattern,
-        Kind::Dflt => Group::Pattern,
+        Kind::Lit
+        | Kind::Call
+        | Kind::Array
+        | Kind::Op
+        | Kind::Assign
+        | Kind::Arrow
+        | Kind::Fn
+        | Kind::Tagged
+        | Kind::Jsx => Group::Expression,
+        Kind::Pat | Kind::Dflt => Group::Pattern,
         Kind::Decl => Group::Decl,
         Kind::Prop => Group::Prop,
         Kind::Attr => Group::Attr,
         Kind::Kwimport => Group::Kwimport,
-        Kind::Hand => Group::Made,
-        Kind::Str => Group::Made,
-        Kind::Bool => Group::Made,
+        Kind::Hand | Kind::Str | Kind::Bool => Group::Made,
     }
 }
 
@@ -117,37 +108,8 @@ fn groups_of(sort: Sort) -> &'static [Group]
             Group::Expression,
             Group::Kwimport,
         ],
-        Sort::Target => &[Group::Ident, Group::Member],
+        Sort::Target | Sort::JsxName => &[Group::Ident, Group::Member],
         Sort::Body => &[Group::Ident, Group::Member, Group::Expression, Group::Block],
-        Sort::JsxName => &[Group::Ident, Group::Member],
-    }
-}
-
-fn same_group(a: Group, b: Group) -> bool
-    ensures { result ≡ same_group a b }
-{
-    order(a) == order(b)
-}
-
-// Each group's place among the groups, by which two are told apart.
-fn order(group: Group) -> u8
-    ensures { result ≡ order group }
-{
-    match group {
-        Group::Module => 0,
-        Group::Item => 1,
-        Group::Statement => 2,
-        Group::Declaration => 3,
-        Group::Block => 4,
-        Group::Ident => 5,
-        Group::Member => 6,
-        Group::Expression => 7,
-        Group::Pattern => 8,
-        Group::Decl => 9,
-        Group::Prop => 10,
-        Group::Attr => 11,
-        Group::Kwimport => 12,
-        Group::Made => 13,
     }
 }
 
@@ -155,11 +117,5 @@ fn order(group: Group) -> u8
 pub fn belongs(sort: Sort, group: Group) -> bool
     ensures { result ≡ belongs sort group }
 {
-    let all = groups_of(sort);
-    for g in all {
-        if same_group(*g, group) {
-            return true;
-        }
-    }
-    false
+    groups_of(sort).contains(&group)
 }

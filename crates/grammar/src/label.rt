@@ -4,9 +4,9 @@ ghost use Rattle.grammar.specs.Labels.{label_of};
 
 use tables::Kind;
 
-#[derive(Clone, Copy)]
+#[derive(Clone, Copy, Debug, PartialEq, Eq)]
 pub enum Label {
-    // nothing
+    // nothing: a kind with this label is as any other
     None,
     // a name and a scope
     Ident,
@@ -30,36 +30,14 @@ pub fn label_of(kind: Kind) -> Label
     ensures { result ≡ label_of kind }
 {
     match kind {
-        Kind::Module => Label::None,
-        Kind::Import => Label::None,
-        Kind::Export => Label::None,
-        Kind::Deffn => Label::Function,
-        Kind::Defexpr => Label::None,
-        Kind::Expr => Label::None,
+        Kind::Deffn | Kind::Fn => Label::Function,
         Kind::Var => Label::Variables,
-        Kind::Func => Label::None,
-        Kind::Return => Label::None,
-        Kind::If => Label::None,
         Kind::Block => Label::Scope,
         Kind::Id => Label::Ident,
-        Kind::Lit => Label::None,
-        Kind::Call => Label::None,
-        Kind::Member => Label::None,
-        Kind::Array => Label::None,
-        Kind::Op => Label::None,
-        Kind::Assign => Label::None,
-        Kind::Arrow => Label::None,
-        Kind::Fn => Label::Function,
-        Kind::Tagged => Label::None,
-        Kind::Jsx => Label::None,
-        Kind::Pat => Label::None,
-        Kind::Dflt => Label::None,
-        Kind::Decl => Label::None,
         Kind::Prop => Label::Name,
-        Kind::Attr => Label::None,
-        Kind::Kwimport => Label::None,
         Kind::Hand => Label::Handle,
         Kind::Str => Label::Text,
         Kind::Bool => Label::Truth,
+        _ => Label::None,
     }
 }

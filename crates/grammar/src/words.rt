@@ -1,70 +1,58 @@
-// The words of the text form.
+// The words of the text form. Functions and no `TryFrom`: the kinds are of another crate, and which words name them is for the grammar to say.
 ghost use Rattle.std.specs.Prelude.{◌≡◌};
-ghost use Rattle.grammar.specs.Words.{word_of, text_of, kinds, kind_of, variables_of};
+ghost use Rattle.grammar.specs.Words.{word_of, text_of, kind_of, variables_of};
 
-use tables::{Kind, Word, same};
+use tables::{Kind, Word};
 
 // The kinds that a text to be loaded may have, those that come often first.
-fn kinds() -> &'static [Kind]
-    ensures { result.now ≡ kinds }
-{
-    &[
-        Kind::Id,
-        Kind::Call,
-        Kind::Member,
-        Kind::Prop,
-        Kind::Lit,
-        Kind::Expr,
-        Kind::Decl,
-        Kind::Var,
-        Kind::Block,
-        Kind::Func,
-        Kind::Arrow,
-        Kind::Jsx,
-        Kind::Attr,
-        Kind::Return,
-        Kind::Fn,
-        Kind::Op,
-        Kind::Assign,
-        Kind::Array,
-        Kind::If,
-        Kind::Pat,
-        Kind::Dflt,
-        Kind::Import,
-        Kind::Export,
-        Kind::Deffn,
-        Kind::Defexpr,
-        Kind::Tagged,
-        Kind::Kwimport,
-        Kind::Module,
-    ]
-}
+const KINDS: &[Kind] = &[
+    Kind::Id,
+    Kind::Call,
+    Kind::Member,
+    Kind::Prop,
+    Kind::Lit,
+    Kind::Expr,
+    Kind::Decl,
+    Kind::Var,
+    Kind::Block,
+    Kind::Func,
+    Kind::Arrow,
+    Kind::Jsx,
+    Kind::Attr,
+    Kind::Return,
+    Kind::Fn,
+    Kind::Op,
+    Kind::Assign,
+    Kind::Array,
+    Kind::If,
+    Kind::Pat,
+    Kind::Dflt,
+    Kind::Import,
+    Kind::Export,
+    Kind::Deffn,
+    Kind::Defexpr,
+    Kind::Tagged,
+    Kind::Kwimport,
+    Kind::Module,
+];
 
 // The kind that a word names, for the kinds that a text to be loaded may have.
+#[tactic(auto, unfolding(crate::specs::Words::kind_of))]
 pub fn kind_of(run: &[u8]) -> Option<Kind>
     ensures { result ≡ kind_of run.now }
 {
-    let all = kinds();
-    for kind in all {
-        if same(run, kind_word(*kind)) {
-            return Some(*kind);
-        }
-    }
-    None
+    KINDS.iter().copied().find(|kind| run == kind_word(*kind))
 }
 
 // The word that a `var` has.
 pub fn variables_of(run: &[u8]) -> Option<Word>
     ensures { result ≡ variables_of run.now }
 {
-    if same(run, b"const") {
-        Some(Word::Const)
-    } else if same(run, b"let") {
-        Some(Word::Let)
-    } else if same(run, b"var") {
-        Some(Word::Var)
-    } else {
-        None
+    match run {
+        b"const" => Some(Word::Const),
+        b"let" => Some(Word::Let),
+        b"var" => Some(Word::Var),
+        _ => None,
     }
 }
 

@@ -1,5 +1,5 @@
 // Which identifiers a module uses in JSX.
-use tables::{Fault, Kind, List, Module, Node, narrow, same, same_ident};
+use tables::{Fault, Kind, List, Module, Node, narrow, same_ident};
 use walk::{Step, Visitor, walk};
 
 // Lists the node numbers of identifiers that are used in JSX.
@@ -10,10 +10,7 @@ struct UsedInJsx<'n, 't, 's, 'i, 'l> {
 }
 
 fn makes_element(name: &[u8]) -> bool {
-    same(name, b"createElement")
-        || same(name, b"jsx")
-        || same(name, b"jsxDEV")
-        || same(name, b"jsxs")
+    matches!(name, b"createElement" | b"jsx" | b"jsxDEV" | b"jsxs")
 }
 
 // Whether a call makes an element, by the `id` or `prop` that it calls.
@@ -26,10 +23,7 @@ fn is_element_call(m: &Module, callee: usize) -> bool {
 }
 
 fn ident_at(m: &Module, at: usize, end: usize) -> Option<usize> {
-    match m.node(at).kind {
-        Kind::Id if at < end => Some(at),
-        _ => None,
-    }
+    (at < end && m.node(at).kind == Kind::Id).then_some(at)
 }
 
 // The identifier that a node uses in JSX, if it does: the name of a `jsx`, or the first argument of a call that makes an element.
@@ -69,12 +63,8 @@ pub fn collect_ident_in_jsx(
 // Whether an identifier is among those listed.
 pub fn is_used(m: &Module, ident: usize, idents: &List<u16>) -> bool {
     let node = m.node(ident);
-    for i in 0..idents.len() {
-        if let Some(at) = idents.get(i) {
-            if same_ident(m.text, node, m.node(at as usize)) {
-                return true;
-            }
-        }
-    }
-    false
+    idents
+        .as_slice()
+        .iter()
+        .any(|&at| same_ident(m.text, node, m.node(at as usize)))
 }

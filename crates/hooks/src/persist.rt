@@ -4,8 +4,9 @@ use crate::util::{is_body_arrow_fn, is_import_or_require};
 use names::begins_upper;
 use tables::{Kind, List, Module, Word, narrow};
 
-// Whether an item's state lasts: a component, by the node number of its identifier, or nothing of the kind.
-#[derive(Clone, Copy)]
+// Whether an item's state lasts: a component, by the node number of its identifier, or nothing of the kind. An own enum and no Option, as the
+// published pass has it, where a wrapped component is a third case.
+#[derive(Clone, Copy, Debug, PartialEq, Eq)]
 pub enum Persist {
     Component(u16),
     None,
@@ -21,10 +22,10 @@ fn get_persistent_id(m: &Module, ident: usize) -> Persist {
 
 // A value that makes a component of a name that is used in JSX.
 fn is_component_value(m: &Module, init: usize) -> bool {
-    match m.node(init).kind {
-        Kind::Arrow | Kind::Fn | Kind::Tagged | Kind::Call => !is_import_or_require(m, init),
-        _ => false,
-    }
+    matches!(
+        m.node(init).kind,
+        Kind::Arrow | Kind::Fn | Kind::Tagged | Kind::Call
+    ) && !is_import_or_require(m, init)
 }
 
 fn get_persistent_id_from_init(m: &Module, ident: usize, init: usize, used: &List<u16>) -> Persist {

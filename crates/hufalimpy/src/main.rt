@@ -1,23 +1,18 @@
 // Instruments one module: `hufalimpy [FORM SOURCE]`. The module goes to standard output, one line on what was done to standard error.
 #![tactic(auto)]
 
-mod message;
-
 use anyhow::anyhow;
-use driver::instrument_in_tables;
-use input::{Settings, defaults, read_settings};
-use message::{tell_done, tell_stop};
+use driver::{Files, LARGEST, Stop, instrument_in_tables};
+use input::{Settings, read_settings};
 use std::io::Write;
-use std::path::Path;
+use std::path::{Path, PathBuf};
 use std::process::ExitCode;
 use std::{env, fs};
 
-// The nodes that the tables have room for, and more bytes than a module of that size prints.
-const N: usize = 8192;
-
+// More bytes than a module prints.
 const OUT: usize = 393216;
 
-// A file that has to be there.
+// A file that has to be there. What goes wrong is told where it is found: an `anyhow::Error` keeps 120 bytes, and a path may be longer.
 fn read(rt: &HostRuntime, path: &str) -> anyhow::Result<Vec<u8>> {
     match fs::read(rt, path) {
         Ok(bytes) => Ok(bytes),
@@ -28,9 +23,14 @@ fn read(rt: &HostRuntime, path: &str) -> anyhow::Result<Vec<u8>> {
     }
 }
 
+// The path of a file beside the form.
+fn beside(rt: &HostRuntime, form: &str, name: &str) -> anyhow::Result<PathBuf> {
+    Ok(Path::new(form).with_file_name(rt.alloc(), name)?)
+}
+
 // A file beside the form that need not be there.
 fn read_beside(rt: &HostRuntime, form: &str, name: &str) -> anyhow::Result<Vec<u8>> {
-    let path = Path::new(form).with_file_name(rt.alloc(), name)?;
+    let path = beside(rt, form, name)?;
     if fs::exists(rt, path.as_str())? {
         read(rt, path.as_str())
     } else {
@@ -38,23 +38,34 @@ fn read_beside(rt: &HostRuntime, form: &str, name: &str) -> anyhow::Result<Vec<u
     }
 }
 
-// The options that a file gives.
+// The options that a file gives; a match, since telling of a bad line may fail too.
 fn settings_of<'a>(
     rt: &HostRuntime,
     form: &str,
     options: &'a [u8],
 ) -> anyhow::Result<Settings<'a>> {
-    match read_settings(options, defaults()) {
+    match read_settings(options, Settings::default()) {
         Ok(settings) => Ok(settings),
         Err(line) => {
-            let path = Path::new(form).with_file_name(rt.alloc(), "in.options")?;
+            let path = beside(rt, form, "in.options")?;
             let path = path.as_str();
-            eprintln!(rt;
-                "{path} line {line}: expected dev, given, reg, sig or full with its value"
-            )?;
+            eprintln!(rt; "{path} {line}: expected dev, given, reg, sig or full with its value")?;
             Err(anyhow!("bad line"))
         }
     }
+}
+
+// Says why there is no module, a bad line with the file that it stands in.
+fn tell_stop(rt: &HostRuntime, stop: Stop, form: &str) -> anyhow::Result<()> {
+    match stop {
+        Stop::Refused(..) => eprintln!(rt; "{stop}")?,
+        Stop::NoteLine(_) => {
+            let path = beside(rt, form, "in.notes")?;
+            let path = path.as_str();
+            eprintln!(rt; "{path} {stop}")?;
+        }
+    }
+    Ok(())
 }
 
 fn instrument_files(rt: &HostRuntime, form_path: &str, source_path: &str) -> anyhow::Result<()> {
@@ -64,27 +75,23 @@ fn instrument_files(rt: &HostRuntime, form_path: &str, source_path: &str) -> any
     let notes = read_beside(rt, form_path, "in.notes")?;
     let options = read_beside(rt, form_path, "in.options")?;
     let settings = settings_of(rt, form_path, options.as_slice())?;
+    let files = Files {
+        form: form.as_slice(),
+        source: source.as_slice(),
+        notes: notes.as_slice(),
+        settings,
+    };
     let mut scratch = vec![in heap; 0u8; notes.len()]?;
     let mut out = vec![in heap; 0u8; OUT]?;
-    match instrument_in_tables(
-        form.as_slice(),
-        source.as_slice(),
-        notes.as_slice(),
-        &settings,
-        N,
-        scratch.as_mut_slice(),
-        out.as_mut_slice(),
-    ) {
+    match instrument_in_tables(&files, LARGEST, scratch.as_mut_slice(), out.as_mut_slice()) {
         Ok(done) => {
-            let n = done.printed.min(out.len());
             let bytes = out.as_slice();
-            rt.stdout().write_all(&bytes[0..n])?;
-            tell_done(rt, &done)?;
+            rt.stdout().write_all(&bytes[..done.printed])?;
+            eprintln!(rt; "{done}")?;
             Ok(())
         }
         Err(stop) => {
-            let path = Path::new(form_path).with_file_name(heap, "in.notes")?;
-            tell_stop(rt, stop, path.as_str())?;
+            tell_stop(rt, stop, form_path)?;
             Err(anyhow!("refused"))
         }
     }

@@ -2,9 +2,11 @@
 #![tactic(auto)]
 
 mod line;
+mod lines;
 mod notes;
 mod options;
 
-pub use line::{cut, line_end, unquote};
+pub use line::{split_once, unquote};
+pub use lines::{BadLine, Lines};
 pub use notes::{NoteLine, note_line};
-pub use options::{Settings, defaults, read_settings};
+pub use options::{Settings, read_settings};

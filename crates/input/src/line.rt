@@ -1,94 +1,40 @@
-// Lines, their parts, and texts in quotes.
-ghost use Rattle.std.specs.Prelude.{◌≤◌, length};
+// Lines cut at a byte, and texts in quotes.
+ghost use Rattle.std.specs.Prelude.{◌++◌, ◌∷◌, ◌≡◌, MatchOption};
+ghost use Rattle.std.specs.List.{Contains};
 
-// Where a byte stands first from `from` on, or the end.
-pub(crate) fn find(text: &[u8], from: usize, b: u8) -> usize
-    ensures within { from ≤ length text.now → result ≤ length text.now }
-    ensures on { from ≤ result }
+use tables::List;
+
+// What stands before the first byte `b`, and what stands behind it.
+pub fn split_once(text: &[u8], b: u8) -> Option<(&[u8], &[u8])>
+    ensures { MatchOption result (¬ (Contains text.now b)) (λ p. (text.now ≡ p.0.now ++ b ∷ p.1.now) × ¬ (Contains p.0.now b)) }
 {
-    for i in from..text.len() {
-        if text[i] == b {
-            return i;
-        }
-    }
-    if from < text.len() { text.len() } else { from }
-}
-
-// Where the line that begins at `from` ends: at its line feed, or where the text does.
-pub fn line_end(text: &[u8], from: usize) -> usize
-    ensures within { from ≤ length text.now → result ≤ length text.now }
-    ensures on { from ≤ result }
-{
-    find(text, from, b'\n')
-}
-
-// The part of a text from `from` to before `to`, as far as there is one.
-pub fn cut<'a>(text: &'a [u8], from: usize, to: usize) -> &'a [u8] {
-    if from <= to && to <= text.len() {
-        &text[from..to]
-    } else {
-        &[]
-    }
+    let at = text.iter().position(|x| *x == b)?;
+    Some((&text[..at], &text[at + 1..]))
 }
 
 // The byte that an escape stands for.
 fn escaped(b: u8) -> Option<u8> {
     match b {
-        b'"' => Some(b'"'),
-        b'\\' => Some(b'\\'),
+        b'"' | b'\\' => Some(b),
         b'n' => Some(b'\n'),
         _ => None,
     }
 }
 
-// What stands between the quotes of a text in quotes.
-fn inside(quoted: &[u8]) -> Option<&[u8]> {
-    let n = quoted.len();
-    if n < 2 || quoted[0] != b'"' || quoted[n - 1] != b'"' {
-        return None;
+// Writes what stands between the quotes, escapes undone, and answers what was written. None if the text is not one in quotes, or `out` is too short
+// for it.
+pub fn unquote<'o>(quoted: &[u8], out: &'o mut [u8]) -> Option<&'o [u8]> {
+    let mut bytes = quoted.strip_prefix(b"\"")?.strip_suffix(b"\"")?.iter();
+    let mut plain = List::over(&mut *out);
+    // no `for`: after a backslash one byte more is taken
+    while let Some(b) = bytes.next() {
+        let byte = match *b {
+            b'"' => return None,
+            b'\\' => escaped(*bytes.next()?)?,
+            other => other,
+        };
+        plain.push(byte).ok()?;
     }
-    Some(&quoted[1..n - 1])
-}
-
-// What a byte does in a text in quotes, after a backslash or not.
-#[derive(Clone, Copy)]
-enum Effect {
-    Escape,
-    Byte(u8),
-    Wrong,
-}
-
-fn effect_of(b: u8, escape: bool) -> Effect {
-    match (b, escape) {
-        (_, true) => match escaped(b) {
-            Some(plain) => Effect::Byte(plain),
-            None => Effect::Wrong,
-        },
-        (b'\\', false) => Effect::Escape,
-        (b'"', false) => Effect::Wrong,
-        (_, false) => Effect::Byte(b),
-    }
-}
-
-// Writes what stands between the quotes, escapes undone, and answers how many bytes it has. None if the text is not one in quotes, or `out` is too
-// short for it.
-pub fn unquote(quoted: &[u8], out: &mut [u8]) -> Option<usize> {
-    let inner = inside(quoted)?;
-    let mut n = 0;
-    let mut escape = false;
-    for b in inner {
-        match effect_of(*b, escape) {
-            Effect::Escape => escape = true,
-            Effect::Byte(plain) => {
-                if n >= out.len() {
-                    return None;
-                }
-                out[n] = plain;
-                n += 1;
-                escape = false;
-            }
-            Effect::Wrong => return None,
-        }
-    }
-    if escape { None } else { Some(n) }
+    let n = plain.len();
+    out.get(..n)
 }

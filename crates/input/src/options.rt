@@ -1,8 +1,9 @@
 // The options of a run as a file of lines: `dev`, `given`, `reg`, `sig`, `full`, each with its value.
-use crate::line::{cut, find, line_end};
-use tables::same;
+use crate::line::split_once;
+use crate::lines::{BadLine, Lines};
 
-#[derive(Clone, Copy)]
+// `given` stands beside the names and not around them: lines come in any order, and the last for an option holds whatever `given` says.
+#[derive(Clone, Copy, Debug, PartialEq, Eq)]
 pub struct Settings<'a> {
     pub dev: bool,
     pub given: bool,
@@ -12,13 +13,15 @@ pub struct Settings<'a> {
 }
 
 // What a run is told where no file says otherwise.
-pub fn defaults() -> Settings<'static> {
-    Settings {
-        dev: true,
-        given: true,
-        reg: b"$RefreshReg$",
-        sig: b"$RefreshSig$",
-        full: true,
+impl Default for Settings<'_> {
+    fn default() -> Self {
+        Settings {
+            dev: true,
+            given: true,
+            reg: b"$RefreshReg$",
+            sig: b"$RefreshSig$",
+            full: true,
+        }
     }
 }
 
@@ -30,44 +33,35 @@ fn flag(value: &[u8]) -> Option<bool> {
     }
 }
 
-// The settings with one line more, or none if the line says none of them.
-fn with_line<'a>(settings: Settings<'a>, line: &'a [u8]) -> Option<Settings<'a>> {
-    let blank = find(line, 0, b' ');
-    if blank >= line.len() {
-        return None;
+impl<'a> Settings<'a> {
+    // The settings with one line more, or none if the line says none of them.
+    fn with_line(self, line: &'a [u8]) -> Option<Settings<'a>> {
+        let (word, value) = split_once(line, b' ')?;
+        Some(match word {
+            b"dev" => Settings {
+                dev: flag(value)?,
+                ..self
+            },
+            b"given" => Settings {
+                given: flag(value)?,
+                ..self
+            },
+            b"full" => Settings {
+                full: flag(value)?,
+                ..self
+            },
+            b"reg" => Settings { reg: value, ..self },
+            b"sig" => Settings { sig: value, ..self },
+            _ => return None,
+        })
     }
-    let word = cut(line, 0, blank);
-    let value = cut(line, blank.saturating_add(1), line.len());
-    let mut s = settings;
-    if same(word, b"dev") {
-        s.dev = flag(value)?;
-    } else if same(word, b"given") {
-        s.given = flag(value)?;
-    } else if same(word, b"full") {
-        s.full = flag(value)?;
-    } else if same(word, b"reg") {
-        s.reg = value;
-    } else if same(word, b"sig") {
-        s.sig = value;
-    } else {
-        return None;
-    }
-    Some(s)
 }
 
-// Reads the options of a file; an error is the number of the bad line, counted from 1.
-pub fn read_settings<'a>(text: &'a [u8], start: Settings<'a>) -> Result<Settings<'a>, usize> {
-    let mut s = start;
-    let mut at = 0;
-    let mut number: usize = 0;
-    while at < text.len() {
-        let end = line_end(text, at);
-        number = number.saturating_add(1);
-        match with_line(s, cut(text, at, end)) {
-            Some(next) => s = next,
-            None => return Err(number),
-        }
-        at = end.saturating_add(1);
+// Reads the options of a file.
+pub fn read_settings<'a>(text: &'a [u8], start: Settings<'a>) -> Result<Settings<'a>, BadLine> {
+    let mut settings = start;
+    for (i, line) in Lines::of(text).enumerate() {
+        settings = settings.with_line(line).ok_or(BadLine(i + 1))?;
     }
-    Ok(s)
+    Ok(settings)
 }

@@ -1,10 +1,12 @@
 -- The first token, by the first byte.
-use Rattle.std.proofs.Common.{◌≡◌, ℕ, ◌+◌, ◌-◌, ◌<◌, ◌≤◌, Bool, true, false, cond, ◌⊎◌, List, [], ◌∷◌, length, get_or, take, drop, sym, refl, ap, ◌∙◌, ⊎_elim, arith, length-drop}
+use Rattle.std.proofs.Common.{◌≡◌, ℕ, ◌+◌, ◌<◌, ◌≤◌, Bool, true, false, cond, ◌⊎◌, List, [], ◌∷◌, length, get_or, take, drop, sym, refl, ap, ◌∙◌, ⊎_elim, arith, length-drop}
+use Rattle.std.specs.Bool.{then_some}
 use Rattle.std.specs.List.{prefix_len}
 use Rattle.std.proofs.lemmas.List.{length-take-le}
 use Rattle.std.proofs.lemmas.List.Sums.{prefix_len-le-length}
 use Rattle.tables.specs.Text.{class}
-use Rattle.lex.specs.Tokens.{end, foul, run, solid, lawful, by_class, run_of, first, size}
+use Rattle.lex.specs.Tokens.{end, foul, run, solid, lawful, by_class, run_of, first, size, view, viewed}
+use Rattle.lex.specs.declared.token.Token.{Token}
 use Rattle.tables.specs.declared.text.Class.{Class}
 use Rattle.tables.specs.declared.text.Class.TheVariants.{Open, Close, Blank, LineFeed, Letter, Digit, Other}
 
@@ -42,9 +44,11 @@ size-first (b ∷ bs) = size-by_class (class b) (b ∷ bs) (omega arith)
 pub size_at : (text : List ℕ) (at : ℕ) → at ≤ length text → at + size (first (drop at text)) ≤ length text
 size_at text at h = omega (arith, size-first (drop at text), length-drop at text)
 
-pub first_run : (bs : List ℕ) (k : Class) (n : ℕ) (t : Bool) → (length bs ≡ 0 → ⊥) → k ≡ class (get_or bs 0 0) → (k ≡ Letter) ⊎ ((k ≡ Digit) ⊎ (k ≡ Other)) → n ≡ prefix_len solid bs → t ≡ lawful (take (n - 0) bs) → cond t (run (take (n - 0) bs)) foul ≡ first bs
+-- a run is a token if its bytes are lawful
+pub viewed_run : (t : Bool) (r : Token) (bs : List ℕ) → view r ≡ run bs → viewed (then_some t r) ≡ cond t (run bs) foul
+viewed_run t r bs e = elim t as (λ b. viewed (then_some b r) ≡ cond b (run bs) foul) [ true ↦ e | false ↦ refl ]
+
+pub first_run : (bs : List ℕ) (k : Class) (n : ℕ) (t : Bool) → 0 < length bs → k ≡ class (get_or bs 0 0) → (k ≡ Letter) ⊎ ((k ≡ Digit) ⊎ (k ≡ Other)) → n ≡ prefix_len solid bs → t ≡ lawful (take n bs) → cond t (run (take n bs)) foul ≡ first bs
 first_run bs k n t h e w l a =
-    let p : 0 < length bs = omega arith in
-    let m : n - 0 ≡ prefix_len solid bs = omega arith in
-    ap (λ b. cond b (run (take (n - 0) bs)) foul) a ∙ ap (λ j. run_of (take j bs)) m ∙
-    ⊎_elim (λ q. sym (ap (λ j. by_class j bs) q) ∙ first_some bs k p e) (⊎_elim (λ q. sym (ap (λ j. by_class j bs) q) ∙ first_some bs k p e) (λ q. sym (ap (λ j. by_class j bs) q) ∙ first_some bs k p e)) w
+    ap (λ b. cond b (run (take n bs)) foul) a ∙ ap (λ j. run_of (take j bs)) l ∙
+    ⊎_elim (λ q. sym (ap (λ j. by_class j bs) q) ∙ first_some bs k h e) (⊎_elim (λ q. sym (ap (λ j. by_class j bs) q) ∙ first_some bs k h e) (λ q. sym (ap (λ j. by_class j bs) q) ∙ first_some bs k h e)) w

@@ -1,6 +1,5 @@
 pub mod First
 pub mod Overs
-pub mod Reading
 pub mod Numbers
 pub mod Texts
 pub mod Spelling

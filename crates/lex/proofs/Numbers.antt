@@ -28,7 +28,7 @@ reads limit n (c ∷ cs) d h =
     cond-true _ _ _ p.0 ∙ cond-true _ _ _ (le-leb _ _ m) ∙ reads limit (n * 10 + (c - 48)) cs p.1 h
 
 not_none : {x : ℕ} → ◌≡◌ {A = Option ℕ} None (Some x) → ⊥
-not_none e = let z : ◌≡◌ {A = ℕ} 0 1 = cc in omega arith
+not_none e = cc
 
 some_same : {x y : ℕ} → ◌≡◌ {A = Option ℕ} (Some x) (Some y) → x ≡ y
 some_same e = cc
@@ -70,10 +70,11 @@ only_decimal limit n bs w e = ⊎_elim
     (λ p. absurd (not_none (sym (cond-false _ _ _ p) ∙ e)))
     (cases_Bool (plain bs))
 
+-- a test that holds wherever another does
+pub every_also : (p q : ℕ → Bool) → ((c : ℕ) → p c ≡ true → q c ≡ true) → (cs : List ℕ) → every p cs ≡ true → every q cs ≡ true
+every_also p q f [] h = refl
+every_also p q f (c ∷ cs) h = let w = and_parts (p c) (every p cs) h in and_from _ _ (f c w.0) (every_also p q f cs w.1)
+
 -- a test that holds of digits holds of every byte of a number's text
 pub all_decimal : (p : ℕ → Bool) → ((c : ℕ) → digit c ≡ true → p c ≡ true) → (n : ℕ) → n < 2 ^ 64 → every p (decimal n) ≡ true
-all_decimal p h n w = over (decimal n) (digits_decimal own n w)
-  where
-    over : (cs : List ℕ) → all_dig cs ≡ true → every p cs ≡ true
-    over [] d = refl
-    over (c ∷ cs) d = let q = and_parts (digit c) (all_dig cs) d in and_from _ _ (h c q.0) (over cs q.1)
+all_decimal p h n w = every_also digit p h (decimal n) (digits_decimal own n w)

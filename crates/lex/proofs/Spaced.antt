@@ -11,7 +11,7 @@ use Rattle.tables.specs.declared.text.Class.{Class}
 use Rattle.tables.specs.declared.text.Class.TheVariants.{Open, Close, Blank, LineFeed, Letter, Digit, Other}
 use Rattle.lex.specs.Tokens.{Tok, opens, closes, blank, feed, run, end, foul, in_run, solid, lawful, by_class, run_of, first, size}
 use Rattle.lex.specs.Texts.{then, tokens_by, tokens, plainly, spelled, spelling}
-use Rattle.lex.proofs.Numbers.{all_decimal}
+use Rattle.lex.proofs.Numbers.{all_decimal, every_also}
 use Rattle.lex.proofs.Texts.{tokens-step}
 
 -- bytes that are read as one run
@@ -45,8 +45,7 @@ name_solid : (c : ℕ) → in_name c ≡ true → solid c ≡ true
 name_solid c h = grind (arith, nat_tests)
 
 names-solid : (bs : List ℕ) → every in_name bs ≡ true → every solid bs ≡ true
-names-solid [] h = refl
-names-solid (c ∷ bs) h = let p = and_parts (in_name c) (every in_name bs) h in and_from _ _ (name_solid c p.0) (names-solid bs p.1)
+names-solid bs h = every_also in_name solid name_solid bs h
 
 dash-solid : (bs : List ℕ) → bytes_eq bs (45 ∷ []) ≡ true → every solid bs ≡ true
 dash-solid [] h = absurd (false≢true h)

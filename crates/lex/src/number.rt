@@ -1,6 +1,5 @@
 // Numbers in base ten.
 ghost use Rattle.std.specs.Prelude.{◌≡◌, ◌≤◌, length, decimal};
-ghost use Rattle.tables.specs.Text.{digit};
 ghost use Rattle.lex.specs.Numbers.{number_of, plain, read_on};
 ghost use Rattle.lex.specs.Written.{over};
 
@@ -10,35 +9,24 @@ use crate::put::put_byte;
 fn is_plain(run: &[u8]) -> bool
     ensures { result ≡ plain run.now }
 {
-    match run {
-        [] => false,
-        [b'0', _, ..] => false,
-        _ => true,
-    }
+    !matches!(run, [] | [b'0', _, ..])
 }
 
-fn is_digit(b: u8) -> bool
-    ensures { result ≡ digit b }
-{
-    match b {
-        b'0'..=b'9' => true,
-        _ => false,
-    }
-}
-
+// A loop: `try_fold` would hold the same two tests in its closure, and is no plainer.
 fn read_on(run: &[u8], limit: u32) -> Option<u32>
     ensures { result ≡ read_on limit 0 run.now }
 {
     let mut n: u64 = 0;
     for b in run {
-        if !is_digit(*b) {
+        if !b.is_ascii_digit() {
             return None;
         }
-        n = n * 10 + (*b - b'0') as u64;
-        if n > limit as u64 {
+        n = n * 10 + u64::from(b - b'0');
+        if n > u64::from(limit) {
             return None;
         }
     }
+    // no bit is lost, as the check proves: a conversion that can fail would have an arm that cannot come
     Some(n as u32)
 }
 
@@ -59,12 +47,12 @@ pub fn put_number(out: &mut [u8], n: u32) -> usize
     ensures few { result ≤ 10 }
     ensures holds { out.new ≡ over out.old (decimal n) }
 {
+    // no bit is lost here either
     let digit = b'0' + (n % 10) as u8;
     if n < 10 {
         return put_byte(out, digit);
     }
     let k = put_number(out, n / 10);
     let from = k.min(out.len());
-    put_byte(&mut out[from..], digit);
-    k + 1
+    k + put_byte(&mut out[from..], digit)
 }

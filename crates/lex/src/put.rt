@@ -1,4 +1,5 @@
 // Writes over the front of a buffer. What does not fit is only counted.
+// Each form is handed the rest of the buffer and answers how many bytes it has: so nothing is allocated, and what is needed is known where it does not fit.
 ghost use Rattle.std.specs.Prelude.{◌≡◌, [], ◌∷◌, length};
 ghost use Rattle.lex.specs.Written.{over};
 
@@ -7,19 +8,18 @@ pub fn put_byte(out: &mut [u8], b: u8) -> usize
     ensures size { result ≡ 1 }
     ensures holds { out.new ≡ over out.old (b ∷ []) }
 {
-    if out.len() > 0 {
-        out[0] = b;
+    if let Some(first) = out.first_mut() {
+        *first = b;
     }
     1
 }
 
 // Writes bytes as far as they fit, and answers how many they are.
-// Writes one byte if there is room.
 pub fn put_bytes(out: &mut [u8], bytes: &[u8]) -> usize
     ensures size { result ≡ length bytes.now }
     ensures holds { out.new ≡ over out.old bytes.now }
 {
     let n = bytes.len().min(out.len());
-    out[0..n].copy_from_slice(&bytes[0..n]);
+    out[..n].copy_from_slice(&bytes[..n]);
     bytes.len()
 }

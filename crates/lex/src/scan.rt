@@ -10,24 +10,16 @@ use tables::{Class, Fault, all_name_chars, class_of, same};
 fn is_solid(c: char) -> bool
     ensures { result ≡ solid c }
 {
-    match class_of(c) {
-        Class::Open | Class::Close | Class::Blank | Class::LineFeed => false,
-        Class::Letter | Class::Digit | Class::Other => true,
-    }
+    matches!(class_of(c), Class::Letter | Class::Digit | Class::Other)
 }
 
 // How many bytes at the front are of a run.
 fn run_len(rest: &[u8]) -> usize
     ensures { result ≡ prefix_len solid rest.now }
 {
-    let mut n = 0;
-    for b in rest {
-        if !is_solid(*b as char) {
-            return n;
-        }
-        n += 1;
-    }
-    n
+    rest.iter()
+        .take_while(|&&b| is_solid(char::from(b)))
+        .count()
 }
 
 // Whether a run has lawful bytes: those of names, or a lone `-`.
@@ -38,36 +30,34 @@ fn is_lawful(run: &[u8]) -> bool
 }
 
 // The first token of what is left of a text, unless it has unlawful bytes.
-fn token_of<'a>(rest: &'a [u8]) -> Option<Token<'a>>
+fn token_of(rest: &[u8]) -> Option<Token<'_>>
     ensures { viewed result ≡ first rest.now }
 {
-    if rest.len() == 0 {
+    let [first, ..] = rest else {
         return Some(Token::End);
-    }
-    match class_of(rest[0] as char) {
+    };
+    match class_of(char::from(*first)) {
         Class::Open => Some(Token::Open),
         Class::Close => Some(Token::Close),
         Class::Blank => Some(Token::Blank),
         Class::LineFeed => Some(Token::LineFeed),
         Class::Letter | Class::Digit | Class::Other => {
-            let n = run_len(rest);
-            let run = &rest[0..n];
-            if is_lawful(run) {
-                Some(Token::Run(run))
-            } else {
-                None
-            }
+            let run = &rest[..run_len(rest)];
+            is_lawful(run).then_some(Token::Run(run))
         }
     }
 }
 
-fn size_of(token: Token) -> usize
-    ensures { result ≡ size (view token.entry) }
-{
-    match token {
-        Token::Open | Token::Close | Token::Blank | Token::LineFeed => 1,
-        Token::Run(run) => run.len(),
-        Token::End => 0,
+impl Token<'_> {
+    // How many bytes it takes.
+    fn size(self) -> usize
+        ensures { result ≡ size (view self.entry) }
+    {
+        match self {
+            Token::Open | Token::Close | Token::Blank | Token::LineFeed => 1,
+            Token::Run(run) => run.len(),
+            Token::End => 0,
+        }
     }
 }
 
@@ -86,13 +76,8 @@ impl<'a> Reader<'a> {
         ensures at { self.new.at ≡ self.old.at + size (token_at self.old.text.now self.old.at) }
     {
         let start = self.at;
-        let text = self.text;
-        match token_of(&text[start..]) {
-            Some(token) => {
-                self.at = start + size_of(token);
-                Ok((start, token))
-            }
-            None => Err(Fault::Unlawful(start)),
-        }
+        let token = token_of(&self.text[start..]).ok_or(Fault::Unlawful(start))?;
+        self.at = start + token.size();
+        Ok((start, token))
     }
 }

@@ -1,7 +1,7 @@
 // Tokens: brackets, blanks, line feeds, the longest runs of other bytes, and the end.
 ghost use Rattle.std.specs.Prelude.{◌≤◌, length};
 
-#[derive(Clone, Copy)]
+#[derive(Clone, Copy, Debug, PartialEq, Eq)]
 pub enum Token<'a> {
     Open,
     Close,

@@ -1,18 +1,16 @@
--- The steps of a loop that looks for a name among others.
-use Rattle.std.proofs.Common.{◌≡◌, ℕ, ◌+◌, ◌<◌, ◌≤◌, true, false, ◌||◌, List, [], length, get_or, drop, ap, ◌∙◌}
+-- A name is among others exactly if a search through them finds it.
+use Rattle.std.proofs.Common.{◌≡◌, ℕ, ◌||◌, List, [], ◌∷◌, refl, ap₂, arith}
+use Rattle.std.proofs.lemmas.Bool.Decides.{nat_tests}
+use Rattle.std.specs.List.{list_any}
 use Rattle.std.specs.Str.{bytes_eq}
-use Rattle.std.proofs.lemmas.List.{at_drop_more, at_drop_all}
 use Rattle.names.specs.Names.{among}
 
-module _ (n : List ℕ) (xs : List (List ℕ)) (i : ℕ) where
-  step : i < length xs → among n (drop i xs) ≡ (bytes_eq n (get_or xs i []) || among n (drop (i + 1) xs))
-  step h = at_drop_more (among n) xs i [] h
+bytes_eq_comm : (xs ys : List ℕ) → bytes_eq xs ys ≡ bytes_eq ys xs
+bytes_eq_comm [] [] = refl
+bytes_eq_comm [] (y ∷ ys) = refl
+bytes_eq_comm (x ∷ xs) [] = refl
+bytes_eq_comm (x ∷ xs) (y ∷ ys) = grind (arith, nat_tests, bytes_eq_comm xs ys)
 
-  pub found : i < length xs → bytes_eq n (get_or xs i []) ≡ true → among n (drop i xs) ≡ true
-  found h y = step h ∙ ap (λ b. b || among n (drop (i + 1) xs)) y
-
-  pub further : i < length xs → bytes_eq n (get_or xs i []) ≡ false → among n (drop i xs) ≡ among n (drop (i + 1) xs)
-  further h y = step h ∙ ap (λ b. b || among n (drop (i + 1) xs)) y
-
-  pub absent : length xs ≤ i → among n (drop i xs) ≡ false
-  absent h = at_drop_all (among n) xs i h
+pub any-among : (n : List ℕ) (xs : List (List ℕ)) → list_any (λ x. bytes_eq x n) xs ≡ among n xs
+any-among n [] = refl
+any-among n (x ∷ xs) = ap₂ (λ a b. a || b) (bytes_eq_comm x n) (any-among n xs)

@@ -1,2 +1,1 @@
-pub mod HookNames
 pub mod Among

@@ -1,22 +1,27 @@
 -- Texts written one behind another.
-use Rattle.std.proofs.Common.{◌≡◌, ℕ, ◌+◌, ◌-◌, ◌^◌, ◌<◌, ◌≤◌, min, true, false, cond, eqb, List, [], ◌∷◌, ◌++◌, length, take, drop, sym, ap, ◌∙◌, arith}
-use borrow.Rule.Slice.PartMut.{put_mid}
+use Rattle.std.proofs.Common.{◌≡◌, ℕ, ◌^◌, ◌<◌, ◌≤◌, min, List, [], ◌++◌, length, take, drop, sym, refl, ap, ◌∙◌, arith}
+use Rattle.std.specs.Borrow.{MutBor}
+use Rattle.std.specs.Fn.{Shared}
 use Rattle.std.proofs.lemmas.List.{append-nil, append_assoc, length-append, take_all}
+use Rattle.std.proofs.lemmas.Bool.Decides.{nat_tests}
 use Rattle.lex.specs.Written.{over}
 use Rattle.grammar.specs.Forms.{escape}
-use Rattle.lex.proofs.Overs.{over_rest}
-use Rattle.printer.specs.Writes.{Puts, Adds}
+use Rattle.lex.proofs.Overs.{length_over, over-over}
+use Rattle.printer.specs.Writes.{Puts, Adds, Behind}
+use Rattle.printer.specs.Output.{Writes}
+use Rattle.printer.specs.declared.pieces.Output.{Output}
 
 -- a count that needs no bound
-pub exact : {t out out' : List ℕ} {r : ℕ} → r ≡ length t → length t < 2 ^ 64 → out' ≡ over out t → Puts t out out' r
+exact : {t out out' : List ℕ} {r : ℕ} → r ≡ length t → length t < 2 ^ 64 → out' ≡ over out t → Puts t out out' r
 exact e small h = record { count = omega arith; holds = h }
 
--- into the rest of the buffer
-pub adds_part : (t out w : List ℕ) (at from r n : ℕ) → Puts t (take (length out - from) (drop from out)) w r → from ≡ min at (length out) → length out < 2 ^ 64 → n ≡ min (at + r) (2 ^ 64 - 1) → Adds t out at (put_mid from (length out - from) out w) n
-adds_part t out w at from r n p f small e =
+-- what a call wrote into the rest of the buffer
+pub adds_behind : {F : Type 0} {g : Shared F (MutBor (List ℕ) × Unit {0}) (ℕ × (MutBor (List ℕ) × Unit {0}))} {f : F} {out out' : List ℕ} {at n : ℕ} (t : List ℕ) (b : Behind g f out at out' n) → Puts t b.shown.now b.left.now b.result → Adds t out at out' n
+adds_behind {out = out} {at = at} t b p =
+    let from = min at (length out) in
     record {
-      count = omega (arith, p.count);
-      holds = λ o s h c. over_rest o out s t w from h (omega arith) p.holds;
+      count = omega (arith, b.count, p.count);
+      holds = λ o s h c. b.holds ∙ ap (λ w. take from out ++ w) p.holds ∙ ap (λ w. take from out ++ over w t) b.shows ∙ ap (λ w. take from w ++ over (drop from w) t) h ∙ over-over o s t from (omega (arith, b.small, ap length h, length_over o s));
     }
 
 -- one text and then another
@@ -41,13 +46,7 @@ pub puts_from : (t : List ℕ) {out out' : List ℕ} {r : ℕ} → Adds t out 0 
 puts_from t {out} a = record { count = omega (arith, a.count); holds = a.holds out [] (sym (over-nil out)) (omega arith) }
 
 pub escape-few : (b : ℕ) → length (escape b) ≤ 2
-escape-few b = elim (eqb b 34) as (λ q. length (cond q (92 ∷ 34 ∷ []) (cond (eqb b 92) (92 ∷ 92 ∷ []) (cond (eqb b 10) (92 ∷ 110 ∷ []) (b ∷ [])))) ≤ 2) [
-  | true ↦ omega arith
-  | false ↦ elim (eqb b 92) as (λ q. length (cond q (92 ∷ 92 ∷ []) (cond (eqb b 10) (92 ∷ 110 ∷ []) (b ∷ []))) ≤ 2) [
-    | true ↦ omega arith
-    | false ↦ elim (eqb b 10) as (λ q. length (cond q (92 ∷ 110 ∷ []) (b ∷ [])) ≤ 2) [ true ↦ omega arith | false ↦ omega arith ]
-  ]
-]
+escape-few b = grind (arith, nat_tests)
 
 -- a text over the front, and then another behind it
 pub puts_then : (t u : List ℕ) {out out' out'' : List ℕ} {n r : ℕ} → Puts t out out' n → Adds u out' n out'' r → Puts (t ++ u) out out'' r
@@ -56,3 +55,14 @@ puts_then t u {out} a b =
       count = omega (arith, a.count, b.count, length-append t u);
       holds = b.holds out t a.holds a.count;
     }
+
+-- one piece, as it was written into the rest of the buffer
+pub writes_behind : {F : Type 0} {g : Shared F (MutBor (List ℕ) × Unit {0}) (ℕ × (MutBor (List ℕ) × Unit {0}))} {f : F} {o o' : Output} (t : List ℕ) (b : Behind g f o.out.now o.n o'.out.now o'.n) → o'.out.ghost_name ≡ o.out.ghost_name → length t < 2 ^ 64 → b.result ≡ length t → b.left.now ≡ over b.shown.now t → Writes t o o'
+writes_behind t b same small size holds = record { adds = λ _. adds_behind t b (exact size small holds); memory = same }
+
+-- one piece and then another
+pub writes_then : (t u : List ℕ) {a b c : Output} → Writes t a b → Writes u b c → Writes (t ++ u) a c
+writes_then t u v w = record { adds = λ h. adds_then t u (v.adds h) (w.adds (omega (arith, (v.adds h).count))); memory = w.memory ∙ v.memory }
+
+pub writes_none : (o : Output) → Writes [] o o
+writes_none o = record { adds = adds_none o.out.now o.n; memory = refl }

@@ -100,12 +100,12 @@ module _ (s : Says) (named : length s.name ≤ 65535) (scoped : s.scope < 2 ^ 32
       omega (arith, length-append (word_of s.kind) a, length-append (32 ∷ decimal s.span.lo) b, length-append (32 ∷ decimal s.span.hi) l, word_few s.kind, decimal-few s.span.lo lo, decimal-few s.span.hi hi, label-few (label_of s.kind))
 
 -- a part more, after a blank
-pub few-more : (at p next n b r m : ℕ) → at < p → p < next → n + 2 ≤ 131106 * max 1 (p - at) → b ≡ min (n + 1) (2 ^ 64 - 1) → r + 1 ≤ 131106 * max 1 (next - p) → m ≡ min (b + r) (2 ^ 64 - 1) → m + 2 ≤ 131106 * max 1 (next - at)
-few-more at p next n b r m l k h e f g = omega arith
+pub few-more : (at p next n b m : ℕ) → at < p → p < next → n + 2 ≤ 131106 * max 1 (p - at) → b ≡ min (n + 1) (2 ^ 64 - 1) → m + 1 ≤ b + 131106 * max 1 (next - p) → m + 2 ≤ 131106 * max 1 (next - at)
+few-more at p next n b m l k h e f = omega arith
 
 -- a line more
-pub few_line : (p next n r m b : ℕ) → p < next → n ≤ 131106 * p → r + 1 ≤ 131106 * max 1 (next - p) → m ≡ min (n + r) (2 ^ 64 - 1) → b ≡ min (m + 1) (2 ^ 64 - 1) → b ≤ 131106 * next
-few_line p next n r m b l h f g e = omega arith
+pub few_line : (p next n m b : ℕ) → p < next → n ≤ 131106 * p → m + 1 ≤ n + 131106 * max 1 (next - p) → b ≡ min (m + 1) (2 ^ 64 - 1) → b ≤ 131106 * next
+few_line p next n m b l h f e = omega arith
 
 -- a table of which the first node counts all nodes
 pub few_all : (size p n r : ℕ) → size < 2 ^ 16 → p ≤ max 1 size → n ≤ 131106 * p → n ≡ min r (2 ^ 64 - 1) → n ≡ r

@@ -12,6 +12,7 @@ use Rattle.grammar.specs.Labels.{label_of}
 use Rattle.grammar.specs.Words.{word_of, text_of, named, kinds}
 use Rattle.grammar.specs.Parts.{Said, says_function}
 use Rattle.grammar.specs.Forms.{Says, Form, form, Forms, nil, cons, escape, escaped, dash, label, head, written, parts, lines}
+use Rattle.lex.proofs.Numbers.{every_also}
 use Rattle.printer.specs.Told.{Sound, AllSaid, AllSaids, Injective}
 
 -- a byte that ends no run
@@ -70,10 +71,7 @@ in_name_free : (c : ℕ) → in_name c ≡ true → free c ≡ true
 in_name_free c h = free_byte c (λ e. false≢true (subst (λ b. in_name b ≡ true) e h)) (λ e. false≢true (subst (λ b. in_name b ≡ true) e h))
 
 all_free : (bs : List ℕ) → every in_name bs ≡ true → Free bs
-all_free [] h = refl
-all_free (b ∷ bs) h =
-    let p = and_parts (in_name b) (every in_name bs) h in
-    and_from (free b) (every free bs) (in_name_free b p.0) (all_free bs p.1)
+all_free bs h = every_also in_name free in_name_free bs h
 
 name_free : (bs : List ℕ) → name bs ≡ true → Free bs
 name_free bs h = all_free bs (and_parts (leb (length bs) 64) (every in_name bs) (and_parts (starts_name bs) (leb (length bs) 64 && every in_name bs) h).1).1
@@ -294,13 +292,8 @@ says_of k w s n bs lo hi = record { kind = k; word = w; scope = s; number = n; n
 
 same_says : (s u : Says) → s.kind ≡ u.kind → s.word ≡ u.word → s.scope ≡ u.scope → s.number ≡ u.number → s.name ≡ u.name → s.span.lo ≡ u.span.lo → s.span.hi ≡ u.span.hi → s ≡ u
 same_says s u k w o n m l h =
-    ap (λ x. says_of x s.word s.scope s.number s.name s.span.lo s.span.hi) k ∙
-    ap (λ x. says_of u.kind x s.scope s.number s.name s.span.lo s.span.hi) w ∙
-    ap (λ x. says_of u.kind u.word x s.number s.name s.span.lo s.span.hi) o ∙
-    ap (λ x. says_of u.kind u.word u.scope x s.name s.span.lo s.span.hi) n ∙
-    ap (λ x. says_of u.kind u.word u.scope u.number x s.span.lo s.span.hi) m ∙
-    ap (λ x. says_of u.kind u.word u.scope u.number u.name x s.span.hi) l ∙
-    ap (λ x. says_of u.kind u.word u.scope u.number u.name u.span.lo x) h
+    let e : says_of s.kind s.word s.scope s.number s.name s.span.lo s.span.hi ≡ says_of u.kind u.word u.scope u.number u.name u.span.lo u.span.hi = cc in
+    e
 
 read_head : (s u : Says) {r q : List ℕ} → Sound s → Sound u → Tail r → Tail q → head s ++ r ≡ head u ++ q → (s ≡ u) × (r ≡ q)
 read_head s u {r} {q} a b tr tq e =
@@ -348,8 +341,8 @@ mutual
 
 read_lines : (fs gs : Forms) → AllSaids fs → AllSaids gs → lines fs ≡ lines gs → fs ≡ gs
 read_lines nil nil a b e = refl
-read_lines nil (cons (form s hs) gs) a b e = absurd (let h : ◌≡◌ {A = ℕ} 0 1 = cc in omega arith)
-read_lines (cons (form s hs) fs) nil a b e = absurd (let h : ◌≡◌ {A = ℕ} 0 1 = cc in omega arith)
+read_lines nil (cons (form s hs) gs) a b e = cc
+read_lines (cons (form s hs) fs) nil a b e = cc
 read_lines (cons t fs) (cons u gs) a b e =
     let x = read_form t u a.0 b.0 (10 ∷ lines fs) (10 ∷ lines gs) e in
     ap₂ cons x.0 (read_lines fs gs a.1 b.1 (same_rest x.1))

@@ -3,26 +3,21 @@ use Rattle.std.proofs.Common.{◌≡◌, ℕ, ◌+◌, ◌<◌, List, ◌∷◌,
 use Rattle.tables.specs.declared.fault.Fault.{Fault}
 use Rattle.lex.specs.Tokens.{Tok, opens, closes, blank, feed, run, end, foul, size, token_at}
 use Rattle.lex.specs.Texts.{then, tokens}
+use Rattle.lex.specs.declared.token.Reader.{Reader}
 use Rattle.lex.proofs.Texts.{tokens_at}
 use Rattle.reader.specs.declared.mode.Mode.{Mode}
-use Rattle.reader.specs.Machine.{State, go, done, stop, step, step_by, accepted, refused, onward, goes}
-
-not_go-stop : {s : State} {f : Fault} → stop f ≡ go s → ⊥
-not_go-stop e = let z : ◌≡◌ {A = ℕ} 0 1 = cc in omega arith
-
-not_go-done : {s s' : State} → done s ≡ go s' → ⊥
-not_go-done e = let z : ◌≡◌ {A = ℕ} 0 1 = cc in omega arith
+use Rattle.reader.specs.Machine.{State, Step, go, done, stop, step, step_by, accepted, refused, onward, goes}
 
 -- at the end the reader never goes on
 not_on_end : (d limit : ℕ) (m : Mode) (s s' : State) (p : ℕ) → step_by d limit m s p end ≡ go s' → ⊥
-not_on_end d limit Mode.First s s' p e = not_go-stop e
-not_on_end d limit (Mode.Word r) s s' p e = not_go-stop e
-not_on_end d limit (Mode.Gap f r) s s' p e = not_go-stop e
-not_on_end d limit (Mode.Said f r) s s' p e = not_go-stop e
-not_on_end d limit (Mode.Parts r) s s' p e = not_go-stop e
-not_on_end d limit (Mode.Part r) s s' p e = not_go-stop e
-not_on_end d limit Mode.Line s s' p e = not_go-stop e
-not_on_end d limit Mode.Items s s' p e = not_go-done e
+not_on_end d limit Mode.First s s' p e = cc
+not_on_end d limit (Mode.Word r) s s' p e = cc
+not_on_end d limit (Mode.Gap f r) s s' p e = cc
+not_on_end d limit (Mode.Said f r) s s' p e = cc
+not_on_end d limit (Mode.Parts r) s s' p e = cc
+not_on_end d limit (Mode.Part r) s s' p e = cc
+not_on_end d limit Mode.Line s s' p e = cc
+not_on_end d limit Mode.Items s s' p e = cc
 
 -- a token with unlawful bytes is refused wherever it stands
 pub foul-stops : (d limit : ℕ) (m : Mode) (s : State) (p : ℕ) → step_by d limit m s p foul ≡ stop (Fault.Unlawful p)
@@ -43,37 +38,40 @@ followed d limit s s' p blank ts e = refl
 followed d limit s s' p feed ts e = refl
 followed d limit s s' p (run bs) ts e = refl
 followed d limit s s' p end ts e = absurd (not_on_end d limit s.mode s s' p e)
-followed d limit s s' p foul ts e = absurd (not_go-stop (sym (foul-stops d limit s.mode s p) ∙ e))
+followed d limit s s' p foul ts e = cc (foul-stops d limit s.mode s p)
 
-pub goes_on : (d limit : ℕ) (s s' : State) (p : ℕ) (t : Tok) (ts : List (ℕ × Tok)) → step d limit s p t ≡ go s' → goes d limit s ((p, t) ∷ ts) ≡ goes d limit s' ts
-goes_on d limit s s' p t ts e = ap (λ x. onward x (λ u. goes d limit u ts)) e
+-- what is left of a text
+abbrev pub left : List ℕ → Reader → List (ℕ × Tok)
+left form r = tokens r.at (drop r.at form)
 
-pub goes-stop : (d limit : ℕ) (s : State) (p : ℕ) (t : Tok) (ts : List (ℕ × Tok)) (f : Fault) → step d limit s p t ≡ stop f → goes d limit s ((p, t) ∷ ts) ≡ refused f
-goes-stop d limit s p t ts f e = ap (λ x. onward x (λ u. goes d limit u ts)) e
+-- a token was read
+pub record Turn (form : List ℕ) (r r' : Reader) (p : ℕ) (t : Tok) : Type 0 where
+  pub text : r.text.now ≡ form
+  pub place : p ≡ r.at
+  pub token : t ≡ token_at r.text.now r.at
+  pub next : r'.at ≡ r.at + size (token_at r.text.now r.at)
 
-pub goes-done : (d limit : ℕ) (s s' : State) (p : ℕ) (t : Tok) (ts : List (ℕ × Tok)) → step d limit s p t ≡ done s' → goes d limit s ((p, t) ∷ ts) ≡ accepted s'
-goes-done d limit s s' p t ts e = ap (λ x. onward x (λ u. goes d limit u ts)) e
+module _ {form : List ℕ} {r r' : Reader} {p : ℕ} {t : Tok} (u : Turn form r r' p t) where
+  here : left form r ≡ (p, t) ∷ then t (left form r')
+  here =
+      subst (λ x. tokens r.at (drop r.at x) ≡ (r.at, t) ∷ then t (tokens r'.at (drop r'.at x))) u.text (tokens_at r.text.now r.at r'.at t u.token u.next)
+      ∙ ap (λ k. (k, t) ∷ then t (left form r')) (sym u.place)
 
--- one turn of the loop over the tokens of a text
-module _ (d limit : ℕ) (form text : List ℕ) (same : text ≡ form) (at next : ℕ) (t : Tok) (shown : t ≡ token_at text at) where
-  here : next ≡ at + size (token_at text at) → tokens at (drop at form) ≡ (at, t) ∷ then t (tokens next (drop next form))
-  here n = subst (λ x. tokens at (drop at x) ≡ (at, t) ∷ then t (tokens next (drop next x))) same (tokens_at text at next t shown n)
+  -- what the step there leads to
+  stepped : (d limit : ℕ) (s : State) (x : Step) → x ≡ step d limit s p t → goes d limit s (left form r) ≡ onward x (λ s'. goes d limit s' (then t (left form r')))
+  stepped d limit s x e = ap (goes d limit s) here ∙ ap (λ y. onward y (λ s'. goes d limit s' (then t (left form r')))) (sym e)
 
-  pub turn_on : (s s' : State) (p : ℕ) → p ≡ at → next ≡ at + size (token_at text at) → go s' ≡ step d limit s p t → goes d limit s' (tokens next (drop next form)) ≡ goes d limit s (tokens at (drop at form))
-  turn_on s s' p is n e =
-      let q : step d limit s at t ≡ go s' = ap (λ k. step d limit s k t) (sym is) ∙ sym e in
-      sym (ap (goes d limit s) (here n ∙ ap (λ ts. (at, t) ∷ ts) (followed d limit s s' at t _ q)) ∙ goes_on d limit s s' at t _ q)
+  pub turn_on : (d limit : ℕ) (s s' : State) → go s' ≡ step d limit s p t → goes d limit s' (left form r') ≡ goes d limit s (left form r)
+  turn_on d limit s s' e = sym (stepped d limit s (go s') e ∙ ap (goes d limit s') (followed d limit s s' p t (left form r') (sym e)))
 
-  pub turn_less : (s s' : State) (p : ℕ) → p ≡ at → next ≡ at + size (token_at text at) → go s' ≡ step d limit s p t → length (tokens next (drop next form)) < length (tokens at (drop at form))
-  turn_less s s' p is n e =
-      let q : step d limit s at t ≡ go s' = ap (λ k. step d limit s k t) (sym is) ∙ sym e in
-      omega (arith, ap length (here n ∙ ap (λ ts. (at, t) ∷ ts) (followed d limit s s' at t _ q)))
+  pub turn_less : (d limit : ℕ) (s s' : State) → go s' ≡ step d limit s p t → length (left form r') < length (left form r)
+  turn_less d limit s s' e = omega (arith, ap length (here ∙ ap (λ ts. (p, t) ∷ ts) (followed d limit s s' p t (left form r') (sym e))))
 
-  pub turn_stop : (s : State) (p : ℕ) (f : Fault) → p ≡ at → next ≡ at + size (token_at text at) → stop f ≡ step d limit s p t → refused f ≡ goes d limit s (tokens at (drop at form))
-  turn_stop s p f is n e = sym (ap (goes d limit s) (here n) ∙ goes-stop d limit s at t _ f (ap (λ k. step d limit s k t) (sym is) ∙ sym e))
+  pub turn_stop : (d limit : ℕ) (s : State) (f : Fault) → stop f ≡ step d limit s p t → refused f ≡ goes d limit s (left form r)
+  turn_stop d limit s f e = sym (stepped d limit s (stop f) e)
 
-  pub turn_done : (s s' : State) (p : ℕ) → p ≡ at → next ≡ at + size (token_at text at) → done s' ≡ step d limit s p t → accepted s' ≡ goes d limit s (tokens at (drop at form))
-  turn_done s s' p is n e = sym (ap (goes d limit s) (here n) ∙ goes-done d limit s s' at t _ (ap (λ k. step d limit s k t) (sym is) ∙ sym e))
+  pub turn_done : (d limit : ℕ) (s s' : State) → done s' ≡ step d limit s p t → accepted s' ≡ goes d limit s (left form r)
+  turn_done d limit s s' e = sym (stepped d limit s (done s') e)
 
-pub turn_foul : (d limit : ℕ) (form text : List ℕ) → text ≡ form → (at : ℕ) → token_at text at ≡ foul → (s : State) (f : Fault) → f ≡ Fault.Unlawful at → refused f ≡ goes d limit s (tokens at (drop at form))
-turn_foul d limit form text same at e s f is = turn_stop d limit form text same at (at + size (token_at text at)) foul (sym e) s at f refl refl (ap stop is ∙ sym (foul-stops d limit s.mode s at))
+pub turn_foul : {form : List ℕ} {r r' : Reader} {p : ℕ} → Turn form r r' p foul → (d limit : ℕ) (s : State) (f : Fault) → f ≡ Fault.Unlawful p → refused f ≡ goes d limit s (left form r)
+turn_foul {form} {r} {r'} {p} u d limit s f is = turn_stop u d limit s f (ap stop is ∙ sym (foul-stops d limit s.mode s p))

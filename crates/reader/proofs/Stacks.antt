@@ -8,9 +8,6 @@ abbrev pub Tops : {X : Type 0} → List X → Option X → List X → Type 0
 Tops [] o ys = (o ≡ None) × (ys ≡ [])
 Tops (f ∷ st) o ys = (o ≡ Some f) × (ys ≡ st)
 
-pub pushed : {X : Type 0} (xs : List X) (x : X) → reverse (xs ++ x ∷ []) ≡ x ∷ reverse xs
-pushed xs x = reverse-append xs (x ∷ [])
-
 nth_end : {X : Type 0} (xs : List X) (x : X) → slice_get (xs ++ x ∷ []) (length xs) ≡ Some x
 nth_end [] x = refl
 nth_end (y ∷ ys) x = nth_end ys x

@@ -11,15 +11,10 @@ fn after_span(label: Label) -> Field
     ensures { result ≡ after_span label }
 {
     match label {
-        Label::None => Field::End,
-        Label::Ident => Field::Name,
-        Label::Name => Field::Name,
+        Label::Ident | Label::Name => Field::Name,
         Label::Scope => Field::Scope,
         Label::Variables => Field::Variables,
-        Label::Function => Field::End,
-        Label::Handle => Field::End,
-        Label::Text => Field::End,
-        Label::Truth => Field::End,
+        _ => Field::End,
     }
 }
 
@@ -27,15 +22,8 @@ fn after_name(label: Label) -> Field
     ensures { result ≡ after_name label }
 {
     match label {
-        Label::None => Field::End,
         Label::Ident => Field::Scope,
-        Label::Name => Field::End,
-        Label::Scope => Field::End,
-        Label::Variables => Field::End,
-        Label::Function => Field::End,
-        Label::Handle => Field::End,
-        Label::Text => Field::End,
-        Label::Truth => Field::End,
+        _ => Field::End,
     }
 }
 
@@ -47,83 +35,49 @@ pub(crate) fn next_field(label: Label, field: Field) -> Field
         Field::Lo => Field::Hi,
         Field::Hi => after_span(label),
         Field::Name => after_name(label),
-        Field::Scope => Field::End,
-        Field::Variables => Field::End,
-        Field::End => Field::End,
+        _ => Field::End,
     }
 }
 
-fn with_lo(node: Node, limit: u32, run: &[u8]) -> Option<Node>
+fn with_lo(mut node: Node, limit: u32, run: &[u8]) -> Option<Node>
     ensures { result ≡ fill limit 0 Field.Lo run.now node }
 {
-    let mut node = node;
-    match read_number(run, limit) {
-        Some(n) => {
-            node.span.lo = n;
-            Some(node)
-        }
-        None => None,
-    }
+    node.span.lo = read_number(run, limit)?;
+    Some(node)
 }
 
 // hi is at least lo; after 0 it is 0.
-fn with_hi(node: Node, limit: u32, run: &[u8]) -> Option<Node>
+fn with_hi(mut node: Node, limit: u32, run: &[u8]) -> Option<Node>
     ensures { result ≡ fill limit 0 Field.Hi run.now node }
 {
-    let mut node = node;
     let lo = node.span.lo;
-    match read_number(run, if lo == 0 { 0 } else { limit }) {
-        Some(n) => {
-            if lo <= n {
-                node.span.hi = n;
-                Some(node)
-            } else {
-                None
-            }
-        }
-        None => None,
-    }
+    let limit = if lo == 0 { 0 } else { limit };
+    node.span.hi = read_number(run, limit).filter(|&hi| lo <= hi)?;
+    Some(node)
 }
 
-fn with_name(node: Node, bytes: usize, run: &[u8]) -> Option<Node>
+fn with_name(mut node: Node, bytes: usize, run: &[u8]) -> Option<Node>
     ensures { result ≡ fill 0 bytes Field.Name run.now node }
 {
-    let mut node = node;
-    if is_name(run) {
-        node.text = Place {
-            at: narrow(bytes),
-            len: narrow(run.len()),
-        };
-        Some(node)
-    } else {
-        None
-    }
+    node.text = Place {
+        at: narrow(bytes),
+        len: narrow(run.len()),
+    };
+    is_name(run).then_some(node)
 }
 
-fn with_scope(node: Node, run: &[u8]) -> Option<Node>
+fn with_scope(mut node: Node, run: &[u8]) -> Option<Node>
     ensures { result ≡ fill 0 0 Field.Scope run.now node }
 {
-    let mut node = node;
-    match read_number(run, 65535) {
-        Some(n) => {
-            node.scope = n as u16;
-            Some(node)
-        }
-        None => None,
-    }
+    node.scope = u16::try_from(read_number(run, 65535)?).ok()?;
+    Some(node)
 }
 
-fn with_variables(node: Node, run: &[u8]) -> Option<Node>
+fn with_variables(mut node: Node, run: &[u8]) -> Option<Node>
     ensures { result ≡ fill 0 0 Field.Variables run.now node }
 {
-    let mut node = node;
-    match variables_of(run) {
-        Some(word) => {
-            node.word = word;
-            Some(node)
-        }
-        None => None,
-    }
+    node.word = variables_of(run)?;
+    Some(node)
 }
 
 // The node after a field has been read, unless the run is none that the field may have.

@@ -7,4 +7,4 @@ mod loader;
 mod mode;
 mod steps;
 
-pub use load::{Loaded, read};
+pub use load::read;

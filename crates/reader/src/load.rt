@@ -3,25 +3,13 @@ ghost use Rattle.reader.specs.Loads.{Read};
 
 use crate::loader::Loader;
 use crate::mode::{Frame, Mode};
-use tables::{Fault, Kind, List, Node, fits};
+use tables::{Fault, Kind, List, Node, Sizes, fits};
 
-// How many nodes a loaded module has, and how many bytes its names take in the text table.
-#[derive(Clone, Copy)]
-pub struct Loaded {
-    pub nodes: usize,
-    pub text: usize,
-}
-
-// The brackets that may be open at the same time.
+// The brackets that may be open at the same time, in a fixed array as there is no heap.
 const NESTING: usize = 64;
 
-// Reads the module whose text form is `form`, over `source`.
-pub fn read(
-    form: &[u8],
-    source: &[u8],
-    nodes: &mut [Node],
-    text: &mut [u8],
-) -> Result<Loaded, Fault>
+// Reads the module whose text form is `form`, over `source`, and answers what it takes of the tables.
+pub fn read(form: &[u8], source: &[u8], nodes: &mut [Node], text: &mut [u8]) -> Result<Sizes, Fault>
     ensures { Read form.now source.now nodes.old text.old result nodes.new text.new }
 {
     if !fits(nodes.len(), text.len(), source.len()) {
@@ -29,6 +17,7 @@ pub fn read(
     }
     let mut frames = [Frame::NONE; NESTING];
     let mut loader = Loader {
+        // no bit is lost: a source that fits is short
         limit: source.len() as u32 + 1,
         mode: Mode::First,
         node: Node::made(Kind::Module),
@@ -40,7 +29,7 @@ pub fn read(
     if loader.count > nodes.len() || loader.bytes > text.len() {
         return Err(Fault::TooLarge);
     }
-    Ok(Loaded {
+    Ok(Sizes {
         nodes: loader.count,
         text: loader.bytes,
     })

@@ -1,4 +1,5 @@
-// The reader between two tokens.
+// The reader between two tokens. The tables are handed to its calls: as `&mut` fields they were tried, with clauses that the references stay, and the
+// equation of `read` stayed open.
 use crate::mode::{Frame, Mode};
 use tables::{List, Node};
 

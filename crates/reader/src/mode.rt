@@ -2,18 +2,18 @@
 use grammar::Rest;
 
 // What a form says right after its kind, one after another.
-#[derive(Clone, Copy)]
+#[derive(Clone, Copy, Debug, PartialEq, Eq)]
 pub enum Field {
     Lo,
     Hi,
     Name,
     Scope,
     Variables,
-    // nothing more
+    // nothing more; a field as the others and no missing one, as the automaton goes from field to field and writes the node at the last
     End,
 }
 
-#[derive(Clone, Copy)]
+#[derive(Clone, Copy, Debug, PartialEq, Eq)]
 pub enum Mode {
     // the bracket of `module`
     First,
@@ -34,7 +34,7 @@ pub enum Mode {
 }
 
 // An open form: its node, and what is wanted after it.
-#[derive(Clone, Copy)]
+#[derive(Clone, Copy, Debug, PartialEq, Eq)]
 pub struct Frame {
     pub at: usize,
     pub later: Rest,

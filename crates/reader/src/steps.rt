@@ -6,7 +6,7 @@ ghost use Rattle.lex.specs.Texts.{tokens};
 ghost use Rattle.lex.specs.Tokens.{view as shown};
 ghost use Rattle.grammar.specs.Rests.{may_dash};
 ghost use Rattle.reader.specs.Machine.{step_by, step, sized, called_in, with_word, kept_bytes, kept_text, advance, said, closed_by, worded, framed, opened, to, go, later, goes};
-ghost use Rattle.reader.specs.Steps.{view, ended, came, Same, Held};
+ghost use Rattle.reader.specs.Steps.{view, wants, came, Same, Held};
 
 use crate::fields::{fill, keep, next_field};
 use crate::loader::Loader;
@@ -19,6 +19,7 @@ use tables::{Fault, Kind, Node, Word, narrow, node_at, same};
 fn put(nodes: &mut [Node], at: usize, node: Node)
     ensures { nodes.new ≡ slice_set nodes.old at node }
 {
+    // not `get_mut`, whose contract does not say what the slice ends as
     if at < nodes.len() {
         nodes[at] = node;
     }
@@ -28,68 +29,62 @@ fn put(nodes: &mut [Node], at: usize, node: Node)
 fn set_size(nodes: &mut [Node], at: usize, count: usize)
     ensures { nodes.new ≡ sized nodes.old at count }
 {
-    let mut node = node_at(nodes, at);
-    node.size = narrow(count.saturating_sub(at));
-    put(nodes, at, node);
+    let size = narrow(count.saturating_sub(at));
+    let node = node_at(nodes, at);
+    put(nodes, at, Node { size, ..node });
 }
 
 // Notes that a function has a name.
 fn set_named(nodes: &mut [Node], at: usize)
     ensures { nodes.new ≡ slice_set nodes.old at (with_word (node_at nodes.old at) Word.Named) }
 {
-    let mut node = node_at(nodes, at);
-    node.word = Word::Named;
-    put(nodes, at, node);
+    let word = Word::Named;
+    let node = node_at(nodes, at);
+    put(nodes, at, Node { word, ..node });
 }
 
+// Each step answers what is wanted after it, or nothing where the text is over.
+// A token comes with its place as two parameters: a step matches on the one and names the other in a refusal alone.
+// `Same` stands in the contracts since it tells the state after a call by the one before, which no invariant of the type can.
 impl Loader<'_> {
-    // Whether one bracket more may be open.
-    fn may_open(&self) -> bool
-        ensures { result ≡ nat_lt (length (reverse (contents self.now.frames))) (room self.now.frames) }
-    {
-        self.frames.len() < self.frames.room()
-    }
-
     // One bracket more, up to the stack's room; then something is wanted.
-    fn open_form(&mut self, place: usize, mode: Mode) -> Result<bool, Fault>
-        ensures does { (ns : List Node) (xs : List ℕ) → ended result (view self.new ns xs) ≡ opened (room self.old.frames) place (view self.old ns xs) (go (to (view self.old ns xs) mode)) }
-        ensures same { Same self.old self.new }
+    fn open_form(&self, place: usize, mode: Mode) -> Result<Option<Mode>, Fault>
+        ensures { (ns : List Node) (xs : List ℕ) → wants result (view self.now ns xs) ≡ opened (room self.now.frames) place (view self.now ns xs) (go (to (view self.now ns xs) mode)) }
     {
-        if !self.may_open() {
-            return Err(Fault::TooDeep(place));
+        if self.frames.len() < self.frames.room() {
+            Ok(Some(mode))
+        } else {
+            Err(Fault::TooDeep(place))
         }
-        self.mode = mode;
-        Ok(false)
     }
 
     // A form of a kind begins.
-    fn begin(&mut self, place: usize, kind: Kind, rest: Rest, later: Rest) -> Result<bool, Fault>
-        ensures does { (ns : List Node) (xs : List ℕ) → ended result (view self.new ns xs) ≡ opened (room self.old.frames) place (view self.old ns xs) (go (framed (view self.old ns xs) kind rest later)) }
+    fn begin(
+        &mut self,
+        place: usize,
+        kind: Kind,
+        rest: Rest,
+        later: Rest,
+    ) -> Result<Option<Mode>, Fault>
+        ensures does { (ns : List Node) (xs : List ℕ) → wants result (view self.new ns xs) ≡ opened (room self.old.frames) place (view self.old ns xs) (go (framed (view self.old ns xs) kind rest later)) }
         ensures same { Same self.old self.new }
     {
-        if !self.may_open() {
-            return Err(Fault::TooDeep(place));
-        }
-        let _ = self.frames.push(Frame {
+        let frame = Frame {
             at: self.count,
             later,
-        });
+        };
+        self.frames.push(frame).or(Err(Fault::TooDeep(place)))?;
         self.node = Node::made(kind);
-        self.mode = Mode::Gap(Field::Lo, rest);
-        Ok(false)
+        Ok(Some(Mode::Gap(Field::Lo, rest)))
     }
 
     // A word that names a kind, where something is wanted.
-    fn kind(&mut self, place: usize, run: &[u8], rest: Rest) -> Result<bool, Fault>
-        ensures does { (ns : List Node) (xs : List ℕ) → ended result (view self.new ns xs) ≡ worded (room self.old.frames) (view self.old ns xs) place rest run.now }
+    fn kind(&mut self, place: usize, run: &[u8], rest: Rest) -> Result<Option<Mode>, Fault>
+        ensures does { (ns : List Node) (xs : List ℕ) → wants result (view self.new ns xs) ≡ worded (room self.old.frames) (view self.old ns xs) place rest run.now }
         ensures same { Same self.old self.new }
     {
-        let Some(kind) = kind_of(run) else {
-            return Err(Fault::Misplaced(place));
-        };
-        let Some(later) = after(rest, group_of(kind)) else {
-            return Err(Fault::Misplaced(place));
-        };
+        let kind = kind_of(run).ok_or(Fault::Misplaced(place))?;
+        let later = after(rest, group_of(kind)).ok_or(Fault::Misplaced(place))?;
         self.begin(place, kind, inside(rest, kind), later)
     }
 
@@ -99,31 +94,24 @@ impl Loader<'_> {
         ensures bytes { self.new.bytes ≡ kept_bytes self.old.bytes field run.now }
         ensures rest { Held self.old self.new }
     {
-        match field {
-            Field::Name => {
-                keep(text, self.bytes, run);
-                self.bytes = self.bytes.saturating_add(run.len());
-            }
-            Field::Lo | Field::Hi | Field::Scope | Field::Variables | Field::End => {}
+        if matches!(field, Field::Name) {
+            keep(text, self.bytes, run);
+            self.bytes = self.bytes.saturating_add(run.len());
         }
     }
 
     // The next field; after the last the node enters the table.
-    fn advance(&mut self, field: Field, rest: Rest, nodes: &mut [Node])
-        ensures does { (xs : List ℕ) → (view self.new nodes.new xs) ≡ advance field rest (view self.old nodes.old xs) }
+    fn advance(&mut self, field: Field, rest: Rest, nodes: &mut [Node]) -> Mode
+        ensures does { (xs : List ℕ) → to (view self.new nodes.new xs) result ≡ advance field rest (view self.old nodes.old xs) }
         ensures same { Same self.old self.new }
     {
         match field {
             Field::End => {
                 put(nodes, self.count, self.node);
                 self.count = self.count.saturating_add(1);
-                self.mode = Mode::Parts(rest);
+                Mode::Parts(rest)
             }
-            Field::Lo => self.mode = Mode::Gap(Field::Lo, rest),
-            Field::Hi => self.mode = Mode::Gap(Field::Hi, rest),
-            Field::Name => self.mode = Mode::Gap(Field::Name, rest),
-            Field::Scope => self.mode = Mode::Gap(Field::Scope, rest),
-            Field::Variables => self.mode = Mode::Gap(Field::Variables, rest),
+            _ => Mode::Gap(field, rest),
         }
     }
 
@@ -136,17 +124,16 @@ impl Loader<'_> {
         rest: Rest,
         nodes: &mut [Node],
         text: &mut [u8],
-    ) -> Result<bool, Fault>
-        ensures does { ended result (view self.new nodes.new text.new) ≡ said self.old.limit (view self.old nodes.old text.old) place field rest run.now }
+    ) -> Result<Option<Mode>, Fault>
+        ensures does { wants result (view self.new nodes.new text.new) ≡ said self.old.limit (view self.old nodes.old text.old) place field rest run.now }
         ensures same { Same self.old self.new }
     {
-        let Some(node) = fill(self.node, field, run, self.limit, self.bytes) else {
-            return Err(Fault::Misplaced(place));
-        };
-        self.node = node;
+        self.node = fill(self.node, field, run, self.limit, self.bytes).ok_or(Fault::Misplaced(
+            place,
+        ))?;
         self.store(field, run, text);
-        self.advance(next_field(label_of(node.kind), field), rest, nodes);
-        Ok(false)
+        let next = next_field(label_of(self.node.kind), field);
+        Ok(Some(self.advance(next, rest, nodes)))
     }
 
     // What is wanted after a form that has ended.
@@ -161,16 +148,13 @@ impl Loader<'_> {
     }
 
     // The innermost form ends.
-    fn close_form(&mut self, place: usize, nodes: &mut [Node]) -> Result<bool, Fault>
-        ensures does { (xs : List ℕ) → ended result (view self.new nodes.new xs) ≡ closed_by (view self.old nodes.old xs) place (reverse (contents self.old.frames)) }
+    fn close_form(&mut self, place: usize, nodes: &mut [Node]) -> Result<Option<Mode>, Fault>
+        ensures does { (xs : List ℕ) → wants result (view self.new nodes.new xs) ≡ closed_by (view self.old nodes.old xs) place (reverse (contents self.old.frames)) }
         ensures same { Same self.old self.new }
     {
-        let Some(frame) = self.frames.pop() else {
-            return Err(Fault::Misplaced(place));
-        };
+        let frame = self.frames.pop().ok_or(Fault::Misplaced(place))?;
         set_size(nodes, frame.at, self.count);
-        self.mode = self.later(frame);
-        Ok(false)
+        Ok(Some(self.later(frame)))
     }
 
     // The innermost form is a function with a name, where one may have none.
@@ -180,53 +164,42 @@ impl Loader<'_> {
         if !may_dash(rest) {
             return;
         }
-        if let Some(frame) = self.frames.get(self.frames.len().saturating_sub(1)) {
+        if let Some(frame) = self.frames.last() {
             set_named(nodes, frame.at);
         }
     }
 
-    fn at_first(&mut self, place: usize, token: Token) -> Result<bool, Fault>
-        ensures does { (ns : List Node) (xs : List ℕ) → ended result (view self.new ns xs) ≡ step_by (room self.old.frames) self.old.limit Mode.First (view self.old ns xs) place (shown token.entry) }
-        ensures same { Same self.old self.new }
+    fn at_first(&self, place: usize, token: Token) -> Result<Option<Mode>, Fault>
+        ensures { (ns : List Node) (xs : List ℕ) → wants result (view self.now ns xs) ≡ step_by (room self.now.frames) self.now.limit Mode.First (view self.now ns xs) place (shown token.entry) }
     {
         match token {
             Token::Open => self.open_form(place, Mode::Word(Rest::Top)),
-            Token::Close | Token::Blank | Token::LineFeed | Token::Run(_) | Token::End => Err(
-                Fault::Misplaced(place),
-            ),
+            _ => Err(Fault::Misplaced(place)),
         }
     }
 
-    fn at_word(&mut self, place: usize, token: Token, rest: Rest) -> Result<bool, Fault>
-        ensures does { (ns : List Node) (xs : List ℕ) → ended result (view self.new ns xs) ≡ step_by (room self.old.frames) self.old.limit (Mode.Word rest) (view self.old ns xs) place (shown token.entry) }
+    fn at_word(&mut self, place: usize, token: Token, rest: Rest) -> Result<Option<Mode>, Fault>
+        ensures does { (ns : List Node) (xs : List ℕ) → wants result (view self.new ns xs) ≡ step_by (room self.old.frames) self.old.limit (Mode.Word rest) (view self.old ns xs) place (shown token.entry) }
         ensures same { Same self.old self.new }
     {
         match token {
             Token::Run(run) => self.kind(place, run, rest),
-            Token::Open | Token::Close | Token::Blank | Token::LineFeed | Token::End => Err(
-                Fault::Misplaced(place),
-            ),
+            _ => Err(Fault::Misplaced(place)),
         }
     }
 
     fn at_gap(
-        &mut self,
+        &self,
         place: usize,
         token: Token,
         field: Field,
         rest: Rest,
-    ) -> Result<bool, Fault>
-        ensures does { (ns : List Node) (xs : List ℕ) → ended result (view self.new ns xs) ≡ step_by (room self.old.frames) self.old.limit (Mode.Gap field rest) (view self.old ns xs) place (shown token.entry) }
-        ensures same { Same self.old self.new }
+    ) -> Result<Option<Mode>, Fault>
+        ensures { (ns : List Node) (xs : List ℕ) → wants result (view self.now ns xs) ≡ step_by (room self.now.frames) self.now.limit (Mode.Gap field rest) (view self.now ns xs) place (shown token.entry) }
     {
         match token {
-            Token::Blank => {
-                self.mode = Mode::Said(field, rest);
-                Ok(false)
-            }
-            Token::Open | Token::Close | Token::LineFeed | Token::Run(_) | Token::End => Err(
-                Fault::Misplaced(place),
-            ),
+            Token::Blank => Ok(Some(Mode::Said(field, rest))),
+            _ => Err(Fault::Misplaced(place)),
         }
     }
 
@@ -238,15 +211,13 @@ impl Loader<'_> {
         rest: Rest,
         nodes: &mut [Node],
         text: &mut [u8],
-    ) -> Result<bool, Fault>
-        ensures does { ended result (view self.new nodes.new text.new) ≡ step_by (room self.old.frames) self.old.limit (Mode.Said field rest) (view self.old nodes.old text.old) place (shown token.entry) }
+    ) -> Result<Option<Mode>, Fault>
+        ensures does { wants result (view self.new nodes.new text.new) ≡ step_by (room self.old.frames) self.old.limit (Mode.Said field rest) (view self.old nodes.old text.old) place (shown token.entry) }
         ensures same { Same self.old self.new }
     {
         match token {
             Token::Run(run) => self.say(place, run, field, rest, nodes, text),
-            Token::Open | Token::Close | Token::Blank | Token::LineFeed | Token::End => Err(
-                Fault::Misplaced(place),
-            ),
+            _ => Err(Fault::Misplaced(place)),
         }
     }
 
@@ -256,102 +227,75 @@ impl Loader<'_> {
         token: Token,
         rest: Rest,
         nodes: &mut [Node],
-    ) -> Result<bool, Fault>
-        ensures does { (xs : List ℕ) → ended result (view self.new nodes.new xs) ≡ step_by (room self.old.frames) self.old.limit (Mode.Parts rest) (view self.old nodes.old xs) place (shown token.entry) }
+    ) -> Result<Option<Mode>, Fault>
+        ensures does { (xs : List ℕ) → wants result (view self.new nodes.new xs) ≡ step_by (room self.old.frames) self.old.limit (Mode.Parts rest) (view self.old nodes.old xs) place (shown token.entry) }
         ensures same { Same self.old self.new }
     {
         match token {
-            Token::Close => {
-                if !closes(rest) {
-                    return Err(Fault::Misplaced(place));
-                }
-                self.close_form(place, nodes)
-            }
-            Token::Blank => {
-                if !goes_on(rest) {
-                    return Err(Fault::Misplaced(place));
-                }
-                self.mode = Mode::Part(rest);
-                Ok(false)
-            }
-            Token::Open | Token::LineFeed | Token::Run(_) | Token::End => Err(Fault::Misplaced(
-                place,
-            )),
+            Token::Close if closes(rest) => self.close_form(place, nodes),
+            Token::Blank if goes_on(rest) => Ok(Some(Mode::Part(rest))),
+            _ => Err(Fault::Misplaced(place)),
         }
     }
 
     fn at_part(
-        &mut self,
+        &self,
         place: usize,
         token: Token,
         rest: Rest,
         nodes: &mut [Node],
-    ) -> Result<bool, Fault>
-        ensures does { (xs : List ℕ) → ended result (view self.new nodes.new xs) ≡ step_by (room self.old.frames) self.old.limit (Mode.Part rest) (view self.old nodes.old xs) place (shown token.entry) }
-        ensures same { Same self.old self.new }
+    ) -> Result<Option<Mode>, Fault>
+        ensures { (xs : List ℕ) → wants result (view self.now nodes.new xs) ≡ step_by (room self.now.frames) self.now.limit (Mode.Part rest) (view self.now nodes.old xs) place (shown token.entry) }
     {
         match token {
             Token::Open => {
-                if !self.may_open() {
-                    return Err(Fault::TooDeep(place));
-                }
+                let mode = self.open_form(place, Mode::Word(rest))?;
                 self.name_function(rest, nodes);
-                self.mode = Mode::Word(rest);
-                Ok(false)
+                Ok(mode)
             }
-            Token::Run(run) => {
-                if !(may_dash(rest) && same(run, b"-")) {
-                    return Err(Fault::Misplaced(place));
-                }
-                self.mode = Mode::Parts(Rest::Params);
-                Ok(false)
+            Token::Run(run) if may_dash(rest) && same(run, b"-") => {
+                Ok(Some(Mode::Parts(Rest::Params)))
             }
-            Token::Close | Token::Blank | Token::LineFeed | Token::End => Err(Fault::Misplaced(
-                place,
-            )),
+            _ => Err(Fault::Misplaced(place)),
         }
     }
 
-    fn at_line(&mut self, place: usize, token: Token) -> Result<bool, Fault>
-        ensures does { (ns : List Node) (xs : List ℕ) → ended result (view self.new ns xs) ≡ step_by (room self.old.frames) self.old.limit Mode.Line (view self.old ns xs) place (shown token.entry) }
-        ensures same { Same self.old self.new }
+    fn at_line(&self, place: usize, token: Token) -> Result<Option<Mode>, Fault>
+        ensures { (ns : List Node) (xs : List ℕ) → wants result (view self.now ns xs) ≡ step_by (room self.now.frames) self.now.limit Mode.Line (view self.now ns xs) place (shown token.entry) }
     {
         match token {
-            Token::LineFeed => {
-                self.mode = Mode::Items;
-                Ok(false)
-            }
-            Token::Open | Token::Close | Token::Blank | Token::Run(_) | Token::End => Err(
-                Fault::Misplaced(place),
-            ),
+            Token::LineFeed => Ok(Some(Mode::Items)),
+            _ => Err(Fault::Misplaced(place)),
         }
     }
 
-    fn at_items(&mut self, place: usize, token: Token, nodes: &mut [Node]) -> Result<bool, Fault>
-        ensures does { (xs : List ℕ) → ended result (view self.new nodes.new xs) ≡ step_by (room self.old.frames) self.old.limit Mode.Items (view self.old nodes.old xs) place (shown token.entry) }
-        ensures same { Same self.old self.new }
+    fn at_items(
+        &self,
+        place: usize,
+        token: Token,
+        nodes: &mut [Node],
+    ) -> Result<Option<Mode>, Fault>
+        ensures { (xs : List ℕ) → wants result (view self.now nodes.new xs) ≡ step_by (room self.now.frames) self.now.limit Mode.Items (view self.now nodes.old xs) place (shown token.entry) }
     {
         match token {
             Token::Open => self.open_form(place, Mode::Word(Rest::Item)),
             Token::End => {
                 set_size(nodes, 0, self.count);
-                Ok(true)
+                Ok(None)
             }
-            Token::Close | Token::Blank | Token::LineFeed | Token::Run(_) => Err(Fault::Misplaced(
-                place,
-            )),
+            _ => Err(Fault::Misplaced(place)),
         }
     }
 
-    // One token; the answer is whether the text is over.
-    pub(crate) fn step(
+    // One token.
+    fn step(
         &mut self,
         place: usize,
         token: Token,
         nodes: &mut [Node],
         text: &mut [u8],
-    ) -> Result<bool, Fault>
-        ensures does { ended result (view self.new nodes.new text.new) ≡ step (room self.old.frames) self.old.limit (view self.old nodes.old text.old) place (shown token.entry) }
+    ) -> Result<Option<Mode>, Fault>
+        ensures does { wants result (view self.new nodes.new text.new) ≡ step (room self.old.frames) self.old.limit (view self.old nodes.old text.old) place (shown token.entry) }
         ensures same { Same self.old self.new }
     {
         match self.mode {
@@ -378,9 +322,10 @@ impl Loader<'_> {
         let mut reader = Reader::new(form);
         loop {
             let (place, token) = reader.next()?;
-            if self.step(place, token, nodes, text)? {
+            let Some(mode) = self.step(place, token, nodes, text)? else {
                 return Ok(());
-            }
+            };
+            self.mode = mode;
         }
     }
 }

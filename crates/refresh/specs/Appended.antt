@@ -1,8 +1,10 @@
--- Appending to a text table of which the first `used` bytes are in use: those stay, and the table keeps its length.
-use Rattle.std.specs.Prelude.{◌≡◌, ℕ, ◌≤◌, List, length, take, IfOk, Result}
-use Rattle.tables.specs.declared.fault.Fault.{Fault}
+-- Appending to a text table: what it holds stays in front, and its memory keeps its length.
+use Rattle.std.specs.Prelude.{◌≡◌, ℕ, ◌≤◌, length, take}
+use Rattle.tables.specs.declared.list.List.{List as Bounded}
+use Rattle.tables.specs.Lists.{contents, room, SameMemory}
 
-pub record Appended (text : List ℕ) (used : ℕ) (r : Result ℕ Fault) (text' : List ℕ) : Type 0 where
-  pub stays : take used text' ≡ take used text
-  pub long : length text' ≡ length text
-  pub ends : IfOk r (λ end. (used ≤ end) × (used ≤ length text → end ≤ length text))
+pub record Extends (text text' : Bounded ℕ) : Type 0 where
+  pub stays : take (length (contents text)) (contents text') ≡ contents text
+  pub more : length (contents text) ≤ length (contents text')
+  pub long : room text' ≡ room text
+  pub memory : SameMemory text text'

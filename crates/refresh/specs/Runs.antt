@@ -4,7 +4,7 @@ use Rattle.tables.specs.declared.fault.Fault.{Fault}
 use Rattle.tables.specs.declared.fault.Fault.TheVariants.{BadOption}
 use Rattle.tables.specs.declared.node.Node.{Node}
 use Rattle.refresh.specs.declared.options.RefreshOptions.{RefreshOptions}
-use Rattle.refresh.specs.declared.sizes.Sizes.{Sizes}
+use Rattle.tables.specs.declared.sizes.Sizes.{Sizes}
 use Rattle.refresh.specs.Options.{lawful}
 
 -- the bytes of text in use stay; the result lies within the tables, and a refusal leaves the nodes as they were

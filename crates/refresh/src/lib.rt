@@ -9,9 +9,7 @@ mod pending;
 mod plan;
 mod register;
 mod signature;
-mod sizes;
 
 pub use options::RefreshOptions;
-pub use pass::{HookRegister, Registration};
-pub use plan::Plan;
-pub use sizes::Sizes;
+pub use pass::{HookRegister, Registration, WorkTables};
+pub use plan::{Component, Plan, Signature};

@@ -5,7 +5,7 @@ ghost use Rattle.refresh.specs.Runs.{bad_options};
 
 use tables::is_name;
 
-#[derive(Clone, Copy)]
+#[derive(Clone, Copy, Debug, PartialEq, Eq)]
 pub struct RefreshOptions<'a> {
     // the name of the function that registers a component
     pub refresh_reg: &'a [u8],
@@ -15,7 +15,7 @@ pub struct RefreshOptions<'a> {
 }
 
 // Whether both names keep the name rule and full signatures are on.
-pub(crate) fn is_lawful(options: &RefreshOptions) -> bool
+fn is_lawful(options: &RefreshOptions) -> bool
     ensures { result ≡ lawful options.now }
 {
     is_name(options.refresh_reg) && is_name(options.refresh_sig) && options.emit_full_signatures
@@ -25,8 +25,5 @@ pub(crate) fn is_lawful(options: &RefreshOptions) -> bool
 pub(crate) fn is_refused(options: &Option<RefreshOptions>) -> bool
     ensures { result ≡ bad_options options.now }
 {
-    match options {
-        Some(options) => !is_lawful(options),
-        None => false,
-    }
+    options.as_ref().is_some_and(|options| !is_lawful(options))
 }

@@ -26,10 +26,9 @@ impl<'w> Output<'w> {
 
     // Notes how many nodes a form has, now that it has been written.
     pub(crate) fn finish(&mut self, at: usize) {
-        let len = self.nodes.len();
-        if let Some(mut node) = self.nodes.get(at) {
-            node.size = narrow(len.saturating_sub(at));
-            self.nodes.put(at, node);
+        if let Some(node) = self.nodes.get(at) {
+            let size = narrow(self.nodes.len().saturating_sub(at));
+            self.nodes.put(at, Node { size, ..node });
         }
     }
 
@@ -38,38 +37,43 @@ impl<'w> Output<'w> {
     }
 
     pub(crate) fn make_handle(&mut self, letter: Word, number: u16) -> Result<(), Fault> {
-        let mut node = Node::made(Kind::Hand);
-        node.word = letter;
-        node.number = number;
-        self.put(node)?;
+        self.put(Node {
+            word: letter,
+            number,
+            ..Node::made(Kind::Hand)
+        })?;
         Ok(())
     }
 
     // An `id` in scope 0, or a `str`.
     pub(crate) fn make_text(&mut self, kind: Kind, text: Place) -> Result<(), Fault> {
-        let mut node = Node::made(kind);
-        node.text = text;
-        self.put(node)?;
+        self.put(Node {
+            text,
+            ..Node::made(kind)
+        })?;
         Ok(())
     }
 
     pub(crate) fn make_var(&mut self) -> Result<usize, Fault> {
-        let mut node = Node::made(Kind::Var);
-        node.word = Word::Var;
-        self.put(node)
+        self.put(Node {
+            word: Word::Var,
+            ..Node::made(Kind::Var)
+        })
     }
 
     pub(crate) fn make_bool(&mut self, value: bool) -> Result<(), Fault> {
-        let mut node = Node::made(Kind::Bool);
-        node.word = if value { Word::True } else { Word::False };
-        self.put(node)?;
+        self.put(Node {
+            word: Word::from(value),
+            ..Node::made(Kind::Bool)
+        })?;
         Ok(())
     }
 
     pub(crate) fn make_spanned(&mut self, kind: Kind, span: Span) -> Result<usize, Fault> {
-        let mut node = Node::made(kind);
-        node.span = span;
-        self.put(node)
+        self.put(Node {
+            span,
+            ..Node::made(kind)
+        })
     }
 
     // A copy of an identifier or a property.
@@ -145,10 +149,8 @@ impl<'w> Output<'w> {
         registrations: &List<Registration>,
     ) -> Result<(), Fault> {
         let var = self.make_var()?;
-        for i in 0..registrations.len() {
-            if let Some(registration) = registrations.get(i) {
-                self.declare_component(registration.handle)?;
-            }
+        for registration in registrations.as_slice() {
+            self.declare_component(registration.handle)?;
         }
         self.finish(var);
         Ok(())

@@ -5,43 +5,52 @@ use hooks::{Persist, collect_hooks, collect_ident_in_jsx, last_part, persistent}
 use tables::{Fault, Kind, List, Module, Node, Place, Word, narrow};
 use walk::{Step, Visitor, walk};
 
-#[derive(Clone, Copy)]
+// The `_c` handle of an item that is a component, and the identifier that names it.
+#[derive(Clone, Copy, Debug, PartialEq, Eq)]
 pub struct Component {
     pub handle: u16,
     pub ident: u16,
 }
 
+// The `_s` handle of a function with hooks, and its signature's place in the text table: no bytes until all functions are planned, and nothing asks for
+// them before.
+#[derive(Clone, Copy, Debug, PartialEq, Eq)]
+pub struct Signature {
+    pub handle: u16,
+    pub text: Place,
+}
+
 // What is planned for a node.
-#[derive(Clone, Copy)]
+#[derive(Clone, Copy, Debug, PartialEq, Eq)]
 pub struct Plan {
-    // the `_s` handle of a function with hooks
-    pub handle: Option<u16>,
-    // its signature's place in the text table
-    pub signature: Place,
+    pub signature: Option<Signature>,
     // a `fn` or `arrow` that initialises a plain identifier
     pub initialiser: bool,
     // a block that declares handles
     pub declares: bool,
-    // the `_c` handle of an item that is a component
     pub component: Option<Component>,
 }
 
 impl Plan {
     pub const NONE: Plan = Plan {
-        handle: None,
-        signature: Place::NONE,
+        signature: None,
         initialiser: false,
         declares: false,
         component: None,
     };
 }
 
+// What is planned for the node at a place; nothing past the table's end.
+pub(crate) fn plan_at(plans: &List<Plan>, at: usize) -> Plan {
+    plans.get(at).unwrap_or(Plan::NONE)
+}
+
 // Whether a function is one that the pass collects the hooks of.
 fn collects(node: Node) -> bool {
-    match (node.kind, node.word) {
-        (Kind::Func | Kind::Fn | Kind::Arrow, _) | (Kind::Deffn, Word::Named) => true,
-        _ => false,
-    }
+    matches!(
+        (node.kind, node.word),
+        (Kind::Func | Kind::Fn | Kind::Arrow, _) | (Kind::Deffn, Word::Named)
+    )
 }
 
 // Whether a node is a `fn` or `arrow` that initialises the plain identifier of the declarator right above it.
@@ -67,11 +76,9 @@ impl<'w> HookRegister<'w> {
 
     // Whether the parts of a function that stand before its body are passed over: those of an initialiser.
     fn is_passed(&self, m: &Module, at: usize, above: Option<u16>) -> bool {
-        match above {
-            Some(above) if self.plan(above as usize).initialiser => m.next(at)
-                != m.next(above as usize),
-            _ => false,
-        }
+        above.is_some_and(|above| {
+            self.plan(above as usize).initialiser && m.next(at) != m.next(above as usize)
+        })
     }
 
     // Whether a function has hooks.
@@ -83,21 +90,20 @@ impl<'w> HookRegister<'w> {
 
     // Notes that the block right around declares a handle.
     fn declare(&mut self) {
-        let n = self.blocks.len();
-        if n > 0 {
-            if let Some(block) = self.blocks.get(n - 1) {
-                let mut plan = self.plan(block as usize);
-                plan.declares = true;
-                self.plans.put(block as usize, plan);
-            }
+        if let Some(block) = self.blocks.last() {
+            self.replan(block as usize, |plan| plan.declares = true);
         }
     }
 
     fn leave_function(&mut self, m: &Module, at: usize) -> Result<(), Fault> {
         if self.has_hooks(m, at)? {
-            let mut plan = self.plan(at);
-            plan.handle = Some(self.next_handle());
-            self.plans.put(at, plan);
+            let handle = self.next_handle();
+            self.replan(at, |plan| {
+                plan.signature = Some(Signature {
+                    handle,
+                    text: Place::NONE,
+                });
+            });
             self.signatures = self.signatures.saturating_add(1);
             self.declare();
         }
@@ -106,12 +112,11 @@ impl<'w> HookRegister<'w> {
 
     fn leave_item(&mut self, m: &Module, at: usize) {
         if let Persist::Component(ident) = persistent(m, at, &self.used) {
-            let mut plan = self.plan(at);
-            plan.component = Some(Component {
-                handle: self.next_handle(),
-                ident,
-            });
-            self.plans.put(at, plan);
+            let handle = self.next_handle();
+            self.replan(
+                at,
+                |plan| plan.component = Some(Component { handle, ident }),
+            );
             self.components = self.components.saturating_add(1);
         }
     }
@@ -120,20 +125,18 @@ impl<'w> HookRegister<'w> {
         if self.is_passed(m, at, above) {
             return Ok(Step::Past);
         }
-        if let Kind::Block = m.node(at).kind {
+        if m.node(at).kind == Kind::Block {
             self.blocks.push(narrow(at))?;
         }
         if initialises(m, at, above) {
-            let mut plan = self.plan(at);
-            plan.initialiser = true;
-            self.plans.put(at, plan);
+            self.replan(at, |plan| plan.initialiser = true);
         }
         Ok(Step::Into)
     }
 
     fn leave(&mut self, m: &Module, at: usize) -> Result<(), Fault> {
         let node = m.node(at);
-        if let Kind::Block = node.kind {
+        if node.kind == Kind::Block {
             self.blocks.pop();
         }
         if collects(node) {
@@ -150,24 +153,20 @@ impl<'w> HookRegister<'w> {
         Ok(())
     }
 
-    // Plans the items up to `end`, one by one.
-    fn plan_items(&mut self, m: &Module, end: usize, stack: &mut List<u16>) -> Result<(), Fault> {
-        let mut item = 1;
-        while item < end {
-            let next = m.next(item);
-            plan_item(self, m, item, next, stack)?;
+    // Plans the items one by one.
+    fn plan_items(&mut self, m: &Module, stack: &mut List<u16>) -> Result<(), Fault> {
+        for item in m.siblings(1, m.nodes.len()) {
+            plan_item(self, m, item, stack)?;
             self.leave_item(m, item);
-            item = next;
         }
         Ok(())
     }
 
     // Plans a module. The walk over it has a stack of its own.
     pub(crate) fn plan_module(&mut self, m: &Module, stack: &mut List<u16>) -> Result<(), Fault> {
-        let end = m.nodes.len();
         collect_ident_in_jsx(m, &mut self.used, stack)?;
-        self.blank_plans(end)?;
-        self.plan_items(m, end, stack)
+        self.blank_plans(m.nodes.len())?;
+        self.plan_items(m, stack)
     }
 }
 
@@ -194,9 +193,8 @@ fn plan_item(
     pass: &mut HookRegister,
     m: &Module,
     item: usize,
-    next: usize,
     stack: &mut List<u16>,
 ) -> Result<(), Fault> {
     let mut planner = Planner { module: *m, pass };
-    walk(m.nodes, item, next, stack, &mut planner)
+    walk(m.nodes, item, m.next(item), stack, &mut planner)
 }

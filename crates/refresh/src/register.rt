@@ -1,49 +1,70 @@
 // Writes the instrumented module: blocks, statements and expressions with their handles and signature calls.
 use crate::pass::{HookRegister, Registration};
-use crate::pending::{list_hooks, list_pending};
+use crate::plan::{Signature, plan_at};
 use hooks::{Hook, HookCall, last_part};
 use names::is_builtin_hook;
-use tables::{Fault, Kind, Module, Span, Word, bytes_at, same};
+use tables::{Fault, Kind, List, Module, Place, Span, Word, bytes_at};
 
-// More calls than a module of 65 levels takes, each level at most five.
+// More calls than a module of 65 levels takes, each level at most three.
 const NESTING: u16 = 512;
 
 fn is_statement(kind: Kind) -> bool {
-    match kind {
-        Kind::Expr | Kind::Var | Kind::Func | Kind::Return | Kind::If | Kind::Block => true,
-        _ => false,
+    matches!(
+        kind,
+        Kind::Expr | Kind::Var | Kind::Func | Kind::Return | Kind::If | Kind::Block
+    )
+}
+
+// A custom hook, by whether it is in one of the scopes that are known.
+#[derive(Clone, Copy, Debug, PartialEq, Eq)]
+enum CustomHook {
+    InScope,
+    OutOfScope,
+}
+
+// The custom hook that a hook is, if it is one.
+fn custom_hook(m: &Module, hook: Hook, sign: Place, scopes: &List<u16>) -> Option<CustomHook> {
+    let (name, scope) = match hook.callee {
+        HookCall::Ident(ident) => (m.name(ident as usize), m.node(ident as usize).scope),
+        HookCall::Member(object, prop) => {
+            let object = object as usize;
+            if m.node(object).kind != Kind::Id || matches!(m.name(object), b"React") {
+                return None;
+            }
+            (m.name(prop as usize), m.node(object).scope)
+        }
+        HookCall::Handle(_) => (bytes_at(m.text, sign), 0),
+    };
+    if is_builtin_hook(name) {
+        None
+    } else if scopes.as_slice().contains(&scope) {
+        Some(CustomHook::InScope)
+    } else {
+        Some(CustomHook::OutOfScope)
     }
 }
 
 impl<'w> HookRegister<'w> {
     // Declares the handles of the functions from `from` to before `end` that stand in no block there.
     fn gen_hook_handle(&mut self, m: &Module, from: usize, end: usize) -> Result<(), Fault> {
-        list_pending(
-            m.nodes,
-            from,
-            end,
-            &self.plans,
-            &mut self.functions,
-            &mut self.open,
-        )?;
+        self.list_pending(m, from, end)?;
         if self.functions.len() == 0 {
             return Ok(());
         }
-        let sign = self.sign;
         let var = self.out.make_var()?;
-        for i in 0..self.functions.len() {
-            if let Some(function) = self.functions.get(i) {
-                if let Some(handle) = self.plan(function as usize).handle {
-                    self.out.make_declarator(handle, sign)?;
-                }
+        for &function in self.functions.as_slice() {
+            if let Some(signature) = plan_at(&self.plans, function as usize).signature {
+                self.out.make_declarator(signature.handle, self.sign)?;
             }
         }
         self.out.finish(var);
         Ok(())
     }
 
+    // The functions that register call each other; the nesting left falls at each call, and at 0 the table is none that load makes.
+
     // A loaded block, with the call that opens a function's body if it is one.
-    #[cycle(block_body_expression_function_parts_statement)]
+    #[cycle(registering)]
     fn block(
         &mut self,
         m: &Module,
@@ -51,111 +72,98 @@ impl<'w> HookRegister<'w> {
         left: u16,
         opening: Option<u16>,
     ) -> Result<(), Fault> {
-        if left == 0 {
-            return Err(Fault::TooLarge);
-        }
+        let left = left.checked_sub(1).ok_or(Fault::TooLarge)?;
         let node = m.node(at);
-        let end = m.next(at);
         let block = self.out.put(node)?;
         if let Some(handle) = opening {
             self.out.make_call_stmt(handle)?;
         }
-        self.gen_hook_handle(m, at.saturating_add(1), end)?;
+        self.gen_hook_handle(m, at.saturating_add(1), m.next(at))?;
         self.current_scope.push(node.scope)?;
-        let mut p = at.saturating_add(1);
-        while p < end {
-            self.statement(m, p, left - 1)?;
+        for p in m.parts(at) {
+            self.statement(m, p, left)?;
             self.sign_after(m, p)?;
-            p = m.next(p);
         }
         self.current_scope.pop();
         self.out.finish(block);
         Ok(())
     }
 
-    #[cycle(block_body_expression_function_parts_statement)]
+    #[cycle(registering)]
     fn statement(&mut self, m: &Module, at: usize, left: u16) -> Result<(), Fault> {
-        if left == 0 {
-            return Err(Fault::TooLarge);
-        }
+        let left = left.checked_sub(1).ok_or(Fault::TooLarge)?;
         match m.node(at).kind {
-            Kind::Block => self.block(m, at, left - 1, None),
-            Kind::Func | Kind::Deffn => self.function(m, at, left - 1),
-            _ => self.parts(m, at, left - 1),
+            Kind::Block => self.block(m, at, left, None),
+            Kind::Func | Kind::Deffn => self.function(m, at, left),
+            _ => self.parts(m, at, left),
         }
     }
 
     // An expression, a pattern or a part of one. A `fn` or `arrow` with hooks is replaced by its signature call, unless it initialises a plain `id`.
-    #[cycle(block_body_expression_function_parts_statement)]
+    #[cycle(registering)]
     fn expression(&mut self, m: &Module, at: usize, left: u16) -> Result<(), Fault> {
-        if left == 0 {
-            return Err(Fault::TooLarge);
-        }
+        let left = left.checked_sub(1).ok_or(Fault::TooLarge)?;
         let plan = self.plan(at);
-        match (m.node(at).kind, plan.handle, plan.initialiser) {
-            (Kind::Fn | Kind::Arrow, Some(handle), false) => {
+        match (m.node(at).kind, plan.signature, plan.initialiser) {
+            (Kind::Fn | Kind::Arrow, Some(signature), false) => {
                 let call = self.out.make(Kind::Call)?;
-                self.out.make_handle(Word::S, handle)?;
-                self.function(m, at, left - 1)?;
-                self.wrap_with_register(m, at)?;
+                self.out.make_handle(Word::S, signature.handle)?;
+                self.function(m, at, left)?;
+                self.wrap_with_register(m, at, signature)?;
                 self.out.finish(call);
                 Ok(())
             }
-            (Kind::Fn | Kind::Arrow, _, _) => self.function(m, at, left - 1),
-            _ => self.parts(m, at, left - 1),
+            (Kind::Fn | Kind::Arrow, _, _) => self.function(m, at, left),
+            _ => self.parts(m, at, left),
         }
     }
 
     // A node as it is, with its parts gone through.
-    #[cycle(block_body_expression_function_parts_statement)]
+    #[cycle(registering)]
     fn parts(&mut self, m: &Module, at: usize, left: u16) -> Result<(), Fault> {
-        if left == 0 {
-            return Err(Fault::TooLarge);
-        }
-        let end = m.next(at);
+        let left = left.checked_sub(1).ok_or(Fault::TooLarge)?;
         let node = self.out.put(m.node(at))?;
-        let mut p = at.saturating_add(1);
-        while p < end {
+        for p in m.parts(at) {
             if is_statement(m.node(p).kind) {
-                self.statement(m, p, left - 1)?;
+                self.statement(m, p, left)?;
             } else {
-                self.expression(m, p, left - 1)?;
+                self.expression(m, p, left)?;
             }
-            p = m.next(p);
         }
         self.out.finish(node);
         Ok(())
     }
 
     // A function, whose body is opened by a call of its handle if it has one.
-    #[cycle(block_body_expression_function_parts_statement)]
+    #[cycle(registering)]
     fn function(&mut self, m: &Module, at: usize, left: u16) -> Result<(), Fault> {
-        if left == 0 {
-            return Err(Fault::TooLarge);
-        }
+        let left = left.checked_sub(1).ok_or(Fault::TooLarge)?;
         let node = self.out.put(m.node(at))?;
         let body = last_part(m, at);
-        let mut p = at.saturating_add(1);
-        while p < body {
-            self.expression(m, p, left - 1)?;
-            p = m.next(p);
+        for p in m.siblings(at.saturating_add(1), body) {
+            self.expression(m, p, left)?;
         }
-        self.body(m, body, left - 1, self.plan(at).handle)?;
+        self.body(m, body, left, self.handle(at))?;
         self.out.finish(node);
         Ok(())
+    }
+
+    // The handle of a function that has one.
+    fn handle(&self, at: usize) -> Option<u16> {
+        self.plan(at).signature.map(|signature| signature.handle)
     }
 
     // The span of an expression as it then stands: a signature call in its place has none.
     fn standing_span(&self, m: &Module, at: usize) -> Span {
         let node = m.node(at);
-        match (node.kind, self.plan(at).handle) {
+        match (node.kind, self.handle(at)) {
             (Kind::Fn | Kind::Arrow, Some(_)) => Span::DUMMY,
             _ => node.span,
         }
     }
 
     // A function's body. An expression that is to be opened becomes a block of the opening call and a `return`.
-    #[cycle(block_body_expression_function_parts_statement)]
+    #[cycle(registering)]
     fn body(
         &mut self,
         m: &Module,
@@ -163,18 +171,16 @@ impl<'w> HookRegister<'w> {
         left: u16,
         opening: Option<u16>,
     ) -> Result<(), Fault> {
-        if left == 0 {
-            return Err(Fault::TooLarge);
-        }
+        let left = left.checked_sub(1).ok_or(Fault::TooLarge)?;
         match (m.node(at).kind, opening) {
-            (Kind::Block, _) => self.block(m, at, left - 1, opening),
-            (_, None) => self.expression(m, at, left - 1),
+            (Kind::Block, _) => self.block(m, at, left, opening),
+            (_, None) => self.expression(m, at, left),
             (_, Some(handle)) => {
                 let span = self.standing_span(m, at);
                 let block = self.out.make_spanned(Kind::Block, span)?;
                 self.out.make_call_stmt(handle)?;
                 let result = self.out.make_spanned(Kind::Return, span)?;
-                self.expression(m, at, left - 1)?;
+                self.expression(m, at, left)?;
                 self.out.finish(result);
                 self.out.finish(block);
                 Ok(())
@@ -182,7 +188,8 @@ impl<'w> HookRegister<'w> {
         }
     }
 
-    // The signature statements that follow a statement or an item: those of the functions named in it, but for any inside a block.
+    // The signature statements that follow a statement or an item: those of the functions named in it, but for any inside a block. An `if`, an
+    // `export` and a `var` are entered, so the next place is not always a sibling.
     fn sign_after(&mut self, m: &Module, statement: usize) -> Result<(), Fault> {
         let end = m.next(statement);
         let mut at = statement;
@@ -216,38 +223,35 @@ impl<'w> HookRegister<'w> {
         function: usize,
         ident: usize,
     ) -> Result<(), Fault> {
-        let Some(handle) = self.plan(function).handle else {
+        let Some(signature) = self.plan(function).signature else {
             return Ok(());
         };
         let statement = self.out.make(Kind::Expr)?;
         let call = self.out.make(Kind::Call)?;
-        self.out.make_handle(Word::S, handle)?;
+        self.out.make_handle(Word::S, signature.handle)?;
         self.out.copy(m, ident)?;
-        self.wrap_with_register(m, function)?;
+        self.wrap_with_register(m, function, signature)?;
         self.out.finish(call);
         self.out.finish(statement);
         Ok(())
     }
 
     // What a signature call has after the function: the signature, whether to reset, and a function that returns the custom hooks in scope.
-    fn wrap_with_register(&mut self, m: &Module, function: usize) -> Result<(), Fault> {
-        let signature = self.plan(function).signature;
-        self.out.make_text(Kind::Str, signature)?;
-        list_hooks(
-            m,
-            function,
-            self.sign_is_hook,
-            &self.plans,
-            &mut self.functions,
-            &mut self.hooks,
-            &mut self.open,
-        )?;
+    fn wrap_with_register(
+        &mut self,
+        m: &Module,
+        function: usize,
+        signature: Signature,
+    ) -> Result<(), Fault> {
+        self.out.make_text(Kind::Str, signature.text)?;
+        self.list_hooks(m, function)?;
+        // one pass tells both: `any` would ask each hook twice
         let mut should_reset = self.should_reset;
         let mut listed = false;
-        for i in 0..self.hooks.len() {
-            match self.custom_hook(m, i) {
-                Some(true) => listed = true,
-                Some(false) => should_reset = true,
+        for &hook in self.hooks.as_slice() {
+            match custom_hook(m, hook, self.sign, &self.current_scope) {
+                Some(CustomHook::InScope) => listed = true,
+                Some(CustomHook::OutOfScope) => should_reset = true,
                 None => {}
             }
         }
@@ -260,62 +264,16 @@ impl<'w> HookRegister<'w> {
         Ok(())
     }
 
-    // Whether a hook that is listed is a custom one, and then whether it is in scope.
-    fn custom_hook(&self, m: &Module, i: usize) -> Option<bool> {
-        let (name, scope) = match self.hooks.get(i) {
-            Some(
-                Hook {
-                    callee: HookCall::Ident(ident),
-                    ..
-                },
-            ) => (m.name(ident as usize), m.node(ident as usize).scope),
-            Some(
-                Hook {
-                    callee: HookCall::Member(object, prop),
-                    ..
-                },
-            ) => match m.node(object as usize).kind {
-                Kind::Id if !same(m.name(object as usize), b"React") => (
-                    m.name(prop as usize),
-                    m.node(object as usize).scope,
-                ),
-                _ => return None,
-            },
-            Some(
-                Hook {
-                    callee: HookCall::Handle(_),
-                    ..
-                },
-            ) => (bytes_at(m.text, self.sign), 0),
-            None => return None,
-        };
-        if is_builtin_hook(name) {
-            None
-        } else {
-            Some(self.is_known(scope))
-        }
-    }
-
-    fn is_known(&self, scope: u16) -> bool {
-        for i in 0..self.current_scope.len() {
-            match self.current_scope.get(i) {
-                Some(known) if known == scope => return true,
-                _ => {}
-            }
-        }
-        false
-    }
-
     // A function that returns the custom hooks in scope.
     fn make_custom_hooks(&mut self, m: &Module) -> Result<(), Fault> {
         let function = self.out.make(Kind::Fn)?;
         let block = self.out.make(Kind::Block)?;
         let result = self.out.make(Kind::Return)?;
         let array = self.out.make(Kind::Array)?;
-        let sign = self.sign;
-        for i in 0..self.hooks.len() {
-            if let (Some(true), Some(hook)) = (self.custom_hook(m, i), self.hooks.get(i)) {
-                self.out.make_callee(m, hook, sign)?;
+        for &hook in self.hooks.as_slice() {
+            let custom = custom_hook(m, hook, self.sign, &self.current_scope);
+            if custom == Some(CustomHook::InScope) {
+                self.out.make_callee(m, hook, self.sign)?;
             }
         }
         self.out.finish(array);
@@ -345,22 +303,9 @@ impl<'w> HookRegister<'w> {
         if self.registrations.len() == 0 {
             return Ok(());
         }
-        let register = self.register;
         self.out.declare_components(&self.registrations)?;
-        for i in 0..self.registrations.len() {
-            if let Some(registration) = self.registrations.get(i) {
-                self.out.register_component(registration, register)?;
-            }
-        }
-        Ok(())
-    }
-
-    // The items, up to `end`.
-    fn items(&mut self, m: &Module, end: usize) -> Result<(), Fault> {
-        let mut at = 1;
-        while at < end {
-            self.item(m, at)?;
-            at = m.next(at);
+        for &registration in self.registrations.as_slice() {
+            self.out.register_component(registration, self.register)?;
         }
         Ok(())
     }
@@ -371,7 +316,9 @@ impl<'w> HookRegister<'w> {
         self.current_scope.push(1)?;
         let module = self.out.put(m.node(0))?;
         self.gen_hook_handle(m, 1, end)?;
-        self.items(m, end)?;
+        for item in m.siblings(1, end) {
+            self.item(m, item)?;
+        }
         self.register_components()?;
         self.out.finish(module);
         Ok(())

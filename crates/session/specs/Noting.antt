@@ -7,9 +7,13 @@ use Rattle.comments.specs.declared.types.Full.{Full}
 use Rattle.comments.specs.declared.types.Side.{Side}
 use Rattle.comments.specs.declared.types.Side.TheVariants.{Leading, Trailing}
 
--- a side is 0 or 1, and a position from 1 to one past the source's length
+-- a position lies from 1 to one past the source's length
+abbrev pub within_source : ℕ → ℕ → Bool
+within_source source position = nat_le 1 position && nat_le position (source + 1)
+
+-- a side is 0 or 1, and a position within the source
 abbrev pub placed : ℕ → ℕ → ℕ → Bool
-placed source side position = nat_le side 1 && (nat_le 1 position && nat_le position (source + 1))
+placed source side position = nat_le side 1 && within_source source position
 
 -- the side that 0 or 1 stands for
 abbrev pub side_of : ℕ → Side

@@ -3,3 +3,4 @@ pub mod Lists
 pub mod Text
 pub mod Modules
 pub mod Sizes
+pub mod Siblings

@@ -1,5 +1,6 @@
 -- What bytes are in a text, and the name rule.
-use Rattle.std.specs.Prelude.{ℕ, Bool, true, false, cond, ◌&&◌, ◌||◌, List, [], ◌∷◌, length, ◌==◌, nat_le}
+use Rattle.std.specs.Prelude.{ℕ, Bool, false, cond, ◌&&◌, ◌||◌, List, [], ◌∷◌, length, ◌==◌, nat_le}
+use Rattle.std.specs.List.{list_all}
 use Rattle.tables.specs.declared.text.Class.{Class}
 use Rattle.tables.specs.declared.text.Class.TheVariants.{Open, Close, Blank, LineFeed, Letter, Digit, Other}
 
@@ -22,8 +23,7 @@ abbrev pub in_name : ℕ → Bool
 in_name c = letter c || digit c
 
 abbrev pub every : (ℕ → Bool) → List ℕ → Bool
-every p [] = true
-every p (c ∷ cs) = p c && every p cs
+every p cs = list_all p cs
 
 abbrev pub starts_name : List ℕ → Bool
 starts_name [] = false

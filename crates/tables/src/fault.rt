@@ -4,15 +4,17 @@ ghost use Rattle.tables.specs.declared.fault.Fault.TheVariants.{TooLarge};
 ghost use Rattle.tables.specs.Faults.{number, place};
 
 use crate::list::Full;
+use std::error::Error;
+use std::fmt;
 
-#[derive(Clone, Copy)]
+#[derive(Clone, Copy, Debug, PartialEq, Eq)]
 pub enum Phase {
     Blank,
     Loaded,
     Done,
 }
 
-#[derive(Clone, Copy)]
+#[derive(Clone, Copy, Debug, PartialEq, Eq)]
 pub enum Fault {
     // a token with bytes that no text may have, at an offset
     Unlawful(usize),
@@ -35,6 +37,7 @@ pub enum Fault {
 }
 
 impl Fault {
+    // The number of each refusal, which callers in C are told. Most cases hold a place, so no cast gives it.
     pub fn number(&self) -> u8
         ensures { result ≡ number self.now }
     {
@@ -51,22 +54,38 @@ impl Fault {
         }
     }
 
+    // The place of each refusal, which callers in C are told too.
     pub fn place(&self) -> usize
         ensures { result ≡ place self.now }
     {
         match *self {
             Fault::Unlawful(at) | Fault::Misplaced(at) | Fault::TooDeep(at) => at,
-            Fault::WrongState(Phase::Loaded) => 1,
-            Fault::WrongState(Phase::Done) => 2,
+            Fault::WrongState(phase) => phase as usize,
             Fault::BadPosition(position) => position as usize,
             Fault::ShortBuffer(needed) => needed,
-            Fault::TooLarge
-            | Fault::WrongState(Phase::Blank)
-            | Fault::TooManyNotes
-            | Fault::BadOption => 0,
+            Fault::TooLarge | Fault::TooManyNotes | Fault::BadOption => 0,
         }
     }
 }
+
+// What a refusal means, in words.
+impl fmt::Display for Fault {
+    fn fmt<W: fmt::Write>(&self, f: &mut fmt::Formatter<W>) -> fmt::Result {
+        f.write_str(match self {
+            Fault::Unlawful(_) => "token has unlawful bytes",
+            Fault::Misplaced(_) => "token cannot stand here",
+            Fault::TooDeep(_) => "too many open brackets",
+            Fault::TooLarge => "too large",
+            Fault::WrongState(_) => "wrong state",
+            Fault::BadPosition(_) => "bad side or position",
+            Fault::TooManyNotes => "too many notes",
+            Fault::BadOption => "bad option",
+            Fault::ShortBuffer(_) => "buffer too short",
+        })
+    }
+}
+
+impl Error for Fault {}
 
 // A list that is full holds as many entries as the tables may have.
 impl From<Full> for Fault {

@@ -6,6 +6,7 @@ mod kind;
 mod list;
 mod module;
 mod node;
+mod siblings;
 mod sizes;
 mod text;
 
@@ -14,5 +15,6 @@ pub use kind::{Kind, Word};
 pub use list::{Full, List};
 pub use module::{Module, bytes_at, next_at, node_at, same_ident, snippet_of};
 pub use node::{Node, Place, Span, narrow};
-pub use sizes::fits;
+pub use siblings::Siblings;
+pub use sizes::{Sizes, fits};
 pub use text::{Class, all_name_chars, class_of, is_name, same};

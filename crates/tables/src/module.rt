@@ -1,8 +1,10 @@
 // A module in its tables, to be read.
 ghost use Rattle.std.specs.Prelude.{◌≡◌, ◌+◌, ◌-◌, ◌^◌, ◌<◌};
 ghost use Rattle.tables.specs.Modules.{node_at, bytes_at, snippet, same_ident, next_at};
+ghost use Rattle.tables.specs.Siblings.{Between, first_part};
 
 use crate::node::{Node, Place, Span};
+use crate::siblings::Siblings;
 use crate::text::same;
 
 #[derive(Clone, Copy)]
@@ -12,15 +14,13 @@ pub struct Module<'n, 't, 's> {
     pub source: &'s [u8],
 }
 
+// Functions over a table of nodes or texts stand beside the methods that call them: the walk, and a run that appends, have no module at hand.
+
 // The node at a place of the table; past its end there is a void one.
 pub fn node_at(nodes: &[Node], at: usize) -> Node
     ensures { result ≡ node_at nodes.now at }
 {
-    if at < nodes.len() {
-        nodes[at]
-    } else {
-        Node::VOID
-    }
+    nodes.get(at).copied().unwrap_or(Node::VOID)
 }
 
 // Where the next node stands that is not below the one at `at`.
@@ -28,11 +28,10 @@ pub fn next_at(nodes: &[Node], at: usize) -> usize
     ensures value { result ≡ next_at nodes.now at }
     ensures on { at < 2 ^ 64 - 1 → at < result }
 {
-    let size = node_at(nodes, at).size as usize;
-    at.saturating_add(if size == 0 { 1 } else { size })
+    at.saturating_add(usize::from(node_at(nodes, at).size).max(1))
 }
 
-// The bytes at a place of the text table.
+// The bytes at a place of the text table. The bounds here and below are those of the definitions.
 pub fn bytes_at<'a>(text: &'a [u8], place: Place) -> &'a [u8]
     ensures { result.now ≡ bytes_at text.now place }
 {
@@ -77,6 +76,20 @@ impl<'n, 't, 's> Module<'n, 't, 's> {
         ensures on { at < 2 ^ 64 - 1 → at < result }
     {
         next_at(self.nodes, at)
+    }
+
+    // The nodes from one place to before another, each past what is below the one before it.
+    pub fn siblings(&self, from: usize, end: usize) -> Siblings<'n>
+        ensures { Between self.now.nodes.now from end result }
+    {
+        Siblings::new(self.nodes, from, end)
+    }
+
+    // The parts of the node at a place.
+    pub fn parts(&self, at: usize) -> Siblings<'n>
+        ensures { Between self.now.nodes.now (first_part at) (next_at self.now.nodes.now at) result }
+    {
+        self.siblings(at.saturating_add(1), self.next(at))
     }
 
     // The name or text of the node at a place.

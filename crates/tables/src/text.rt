@@ -3,7 +3,7 @@ ghost use Rattle.std.specs.Prelude.{◌≡◌};
 ghost use Rattle.std.specs.Str.{bytes_eq};
 ghost use Rattle.tables.specs.Text.{class, letter, in_name, every, starts_name, name};
 
-#[derive(Clone, Copy)]
+#[derive(Clone, Copy, Debug, PartialEq, Eq)]
 pub enum Class {
     Open,
     Close,
@@ -32,40 +32,26 @@ pub fn class_of(c: char) -> Class
 pub fn is_name_char(c: char) -> bool
     ensures { result ≡ in_name c }
 {
-    match class_of(c) {
-        Class::Letter | Class::Digit => true,
-        Class::Open | Class::Close | Class::Blank | Class::LineFeed | Class::Other => false,
-    }
+    matches!(class_of(c), Class::Letter | Class::Digit)
 }
 
 fn starts_name(run: &[u8]) -> bool
     ensures { result ≡ starts_name run.now }
 {
-    match run {
-        [] => false,
-        [first, ..] => is_letter(*first as char),
-    }
+    run.first().is_some_and(|&b| is_letter(char::from(b)))
 }
 
 fn is_letter(c: char) -> bool
     ensures { result ≡ letter c }
 {
-    match class_of(c) {
-        Class::Letter => true,
-        _ => false,
-    }
+    matches!(class_of(c), Class::Letter)
 }
 
 // Whether every byte may stand in a name.
 pub fn all_name_chars(run: &[u8]) -> bool
     ensures { result ≡ every in_name run.now }
 {
-    for b in run {
-        if !is_name_char(*b as char) {
-            return false;
-        }
-    }
-    true
+    run.iter().all(|&b| is_name_char(char::from(b)))
 }
 
 // The name rule: 1 to 64 letters, digits, `_` and `$`, no digit first.
@@ -75,7 +61,7 @@ pub fn is_name(run: &[u8]) -> bool
     starts_name(run) && run.len() <= 64 && all_name_chars(run)
 }
 
-// Whether two texts have the same bytes.
+// Whether two texts have the same bytes, told by the definition that sameness of names is written with.
 pub fn same(a: &[u8], b: &[u8]) -> bool
     ensures { result ≡ bytes_eq a.now b.now }
 {

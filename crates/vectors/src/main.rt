@@ -1,4 +1,4 @@
-// Runs the table of cases whose answers were written from the rules.
+// Runs the table of cases whose answers were written from the rules. A program of its own beside `answers`, for its own input and stored output.
 #![tactic(auto)]
 
 use cases::run_table;

@@ -1,7 +1,7 @@
 // The walk over the nodes of a table, for any visitor, with its stack handed in.
 ghost use Rattle.std.specs.Prelude.{◌≡◌, ◌-◌, ◌^◌, ◌<◌, nat_le};
 ghost use Rattle.walk.specs.Calls.{Enters, Leaves};
-ghost use Rattle.tables.specs.Lists.{contents, room, last};
+ghost use Rattle.tables.specs.Lists.{contents, room};
 ghost use Rattle.tables.specs.Modules.{next_at};
 ghost use Rattle.walk.specs.Shown.{Walked, Went};
 ghost use Rattle.walk.specs.Turns.{Closed, Entered, onward};
@@ -9,7 +9,7 @@ ghost use Rattle.walk.specs.Turns.{Closed, Entered, onward};
 use tables::{Fault, List, Node, narrow, next_at};
 
 // What a visitor wants of a node that it has entered: to be shown what is below it, or to go past that.
-#[derive(Clone, Copy)]
+#[derive(Clone, Copy, Debug, PartialEq, Eq)]
 pub enum Step {
     Into,
     Past,
@@ -31,20 +31,15 @@ pub trait Visitor {
         ensures { leaving self.old nodes.now at result self.new };
 }
 
-// The last of the open nodes.
-fn last(open: &List<u16>) -> Option<u16>
-    ensures { result ≡ last (contents «open».now) }
-{
-    let n = open.len();
-    if n == 0 { None } else { open.get(n - 1) }
-}
-
 // Whether the node at `top`, with all that is below it, ends before `at`.
 fn ended(nodes: &[Node], top: u16, at: usize) -> bool
     ensures { result ≡ nat_le (next_at nodes.now top) at }
 {
     next_at(nodes, top as usize) <= at
 }
+
+// The table, the stack and the visitor are handed one by one: a struct of references would have to say of two of them, in each contract, that they
+// stay the same references. The list keeps its room in each call, which relates before and after.
 
 // Leaves the open nodes that end before `at`, and says which one stays open last.
 fn close<V: Visitor>(
@@ -56,7 +51,8 @@ fn close<V: Visitor>(
     ensures does { Closed V.Visitor.leaving nodes.now at (contents «open».old) visitor.old result (contents «open».new) visitor.new }
     ensures room { room «open».new ≡ room «open».old }
 {
-    while let Some(top) = last(open) {
+    // takes from the stack, so there is nothing to iterate over
+    while let Some(top) = open.last() {
         if !ended(nodes, top, at) {
             return Ok(Some(top));
         }
@@ -111,6 +107,7 @@ pub fn walk<V: Visitor>(
 {
     let mut at = from;
     open.clear();
+    // the visitor says how far each turn goes, so no iterator knows the places before
     while at < end {
         let above = close(nodes, at, open, visitor)?;
         at = enter(nodes, at, above, open, visitor)?;

@@ -1,9 +1,17 @@
-use Rattle.std.proofs.Common.{◌≡◌, ◌+◌, ◌<◌, false, length, drop}
-use Rattle.comments.specs.Notes.{has, begins}
+use Rattle.std.proofs.Common.{◌≡◌, ℕ, ◌<◌, ◌≤◌, false, length, drop}
+use Rattle.comments.specs.Notes.{begins}
 use Rattle.comments.proofs.search.contains.Given as goal
 
+-- the bytes that are left decide whether the needle stands here
 abbrev pub invariant-bytes : goal.invariant-bytes
-invariant-bytes l = begins (drop (l.at + l.k) l.text) (drop l.k l.needle) ≡ begins (drop l.at l.text) l.needle
+invariant-bytes l = record {
+  same : begins l.a-iterator.a.rest.now l.a-iterator.b.rest.now ≡ begins (drop l.at l.text) l.needle;
+  enough : length l.a-iterator.b.rest.now ≤ length l.a-iterator.a.rest.now;
+}
 
+-- it stands at no place before this one
 abbrev pub invariant-places : goal.invariant-places
-invariant-places l = (l.found ≡ false) × (0 < l.at → 0 < length l.needle) × (has (drop l.at l.text) l.needle ≡ has l.text l.needle)
+invariant-places l = record {
+  unfound : l.found ≡ false;
+  nowhere : (k : ℕ) → k < l.at → begins (drop k l.text) l.needle ≡ false;
+}

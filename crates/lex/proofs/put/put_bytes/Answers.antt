@@ -1,10 +1,9 @@
-use Rattle.std.proofs.Common.{◌-◌, ◌++◌, drop, refl, ap, ◌∙◌, arith}
+use Rattle.std.proofs.Common.{◌++◌, drop, ap, ◌∙◌}
 use Rattle.lex.proofs.Overs.{over_part}
 use Rattle.lex.proofs.put.put_bytes.Goals as goal
 
-pub returns : goal.returns
-returns c =
+pub returns-clause-holds : goal.returns-clause-holds
+returns-clause-holds c =
     let o = c.args.out.now in
-    let t = c.args.bytes.now in
-    let k = c.min-n.result - 0 in
-    record { size = refl; holds = ap (λ s. s ++ drop k o) c.copy_from_slice.ensures.after ∙ over_part o t k (omega (arith, c.min-n.ensures)) }
+    let k = c.min-n.result in
+    ap (λ s. s ++ drop k o) c.copy_from_slice.ensures.after ∙ over_part o c.args.bytes.now k c.min-n.ensures

@@ -1,11 +1,9 @@
-use Rattle.comments.proofs.Asking.{asked_next, asked_found, asked_end}
+use Rattle.std.proofs.Common.{rules}
+use Rattle.comments.proofs.Asking.{told_none, told_at}
 use Rattle.comments.proofs.arrival.ArrivalComments.ask.Goals as goal
 
-pub notes-preserved : goal.notes-preserved
-notes-preserved c = asked_next c.notes.invariant c.notes-test.true c.answers.ensures c.if-answers.false
-
 pub returns-after-notes : goal.returns-after-notes
-returns-after-notes c = asked_end c.notes.invariant c.notes-test.false
+returns-after-notes c = search (rules, told_none)
 
 pub returns-then-answers : goal.returns-then-answers
-returns-then-answers c = asked_found c.notes.invariant c.notes-test.true c.answers.ensures c.if-answers.true
+returns-then-answers c = search (rules, told_at)

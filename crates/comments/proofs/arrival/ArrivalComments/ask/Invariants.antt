@@ -1,5 +1,9 @@
-use Rattle.comments.proofs.Asking.{Asked}
+use Rattle.std.proofs.Common.{◌≡◌, false}
+use Rattle.comments.proofs.Asking.{Unanswered}
 use Rattle.comments.proofs.arrival.ArrivalComments.ask.Given as goal
 
 abbrev pub invariant-notes : goal.invariant-notes
-invariant-notes l = Asked l.self.table l.side l.position l.needle l.i l.found
+invariant-notes l = record {
+  unfound : l.found ≡ false;
+  unanswered : Unanswered l.self.table l.side l.position l.needle l.note-index;
+}

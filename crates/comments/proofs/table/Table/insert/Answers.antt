@@ -1,12 +1,11 @@
-use Rattle.std.proofs.Common.{◌≡◌, ◌+◌, ◌<◌, length, Ok, sym, ap, ◌∙◌, arith}
-use Rattle.std.proofs.lemmas.Bool.{cond-true, cond-false}
-use Rattle.comments.proofs.Rows.{length-held, room_there, no_room, sum_more, positions-more, within_more, held_more}
+use Rattle.std.proofs.Common.{◌≡◌, ◌+◌, ◌<◌, length, Ok, refl, sym, ap, ◌∙◌, arith}
+use Rattle.comments.proofs.Rows.{length-held, room_same, sum_more, positions-more, within_more, held_more}
 use Rattle.comments.proofs.table.Table.insert.Goals as goal
 
 pub returns-then-not-has_room : goal.returns-then-not-has_room
 returns-then-not-has_room c =
-    let off = no_room c.args.self.now (length c.args.text.now) c.has_room.result c.has_room.ensures c.if-not-has_room.true in
-    record { answer = sym (cond-false _ _ _ off); holds = sym (cond-false _ _ _ off); positions = sym (cond-false _ _ _ off) }
+    let off = sym (room_same c.args.self.now (length c.args.text.now) c.has_room.result c.has_room.ensures) ∙ c.if-not-has_room.true in
+    rw off (record { answer = refl; holds = refl; positions = refl })
 
 pub invariant_of-self : goal.invariant_of-self
 invariant_of-self c =
@@ -31,9 +30,9 @@ returns c =
     let put = c.args.text.now in
     let new = c.insert_record.new.records in
     let rows = c.insert_record.ensures in
-    let on = room_there t (length put) (c.has_room.ensures.0 c.if-not-has_room.false) in
-    record {
-      answer = ap (λ k. Ok (k + 1)) (sym (length-held t)) ∙ sym (cond-true _ _ _ on);
-      holds = held_more t new c.args.at c.args.side c.args.position put rows c.write_text.new.bytes c.write_text.ensures ∙ sym (cond-true _ _ _ on);
-      positions = positions-more t new c.args.at c.args.side c.args.position put rows ∙ sym (cond-true _ _ _ on);
-    }
+    let on = sym (room_same t (length put) c.has_room.result c.has_room.ensures) ∙ c.if-not-has_room.false in
+    rw on (record {
+      answer = ap (λ k. Ok (k + 1)) (sym (length-held t));
+      holds = held_more t new c.args.at c.args.side c.args.position put rows c.write_text.new.bytes c.write_text.ensures;
+      positions = positions-more t new c.args.at c.args.side c.args.position put rows;
+    })

@@ -1,5 +1,4 @@
-use Rattle.std.proofs.Common.{◌-◌, cond, reverse, sym, ap, ◌∙◌}
-use Rattle.std.specs.List.{slice_get}
+use Rattle.std.proofs.Common.{cond, reverse, sym, ap, ◌∙◌}
 use Rattle.tables.specs.Lists.{contents}
 use Rattle.reader.specs.Machine.{called_in}
 use Rattle.reader.proofs.Tops.{called_top, called_none}
@@ -9,12 +8,10 @@ pub returns-in-Some : goal.returns-in-Some
 returns-in-Some c =
     let xs = contents c.args.self.now.frames in
     let ns = c.args.nodes.now in
-    let e = sym (c.get.ensures ∙ ap (slice_get xs) (c.saturating_sub.ensures ∙ ap (λ n. n - 1) c.len.ensures)) ∙ c.in-Some.is in
-    c.set_named.ensures ∙ called_top ns xs c.in-Some.frame e ∙ ap (λ b. cond b (called_in ns (reverse xs)) ns) c.if-not-may_dash.ensures
+    c.set_named.ensures ∙ called_top ns xs c.in-Some.frame (sym c.in-Some.ensures) ∙ ap (λ b. cond b (called_in ns (reverse xs)) ns) c.if-not-may_dash.ensures
 
 pub returns-in_default : goal.returns-in_default
 returns-in_default c =
     let xs = contents c.args.self.now.frames in
     let ns = c.args.nodes.now in
-    let e = sym (c.get.ensures ∙ ap (slice_get xs) (c.saturating_sub.ensures ∙ ap (λ n. n - 1) c.len.ensures)) ∙ c.in_default.is in
-    called_none ns xs e ∙ ap (λ b. cond b (called_in ns (reverse xs)) ns) c.if-not-may_dash.ensures
+    called_none ns xs (sym c.in_default.ensures) ∙ ap (λ b. cond b (called_in ns (reverse xs)) ns) c.if-not-may_dash.ensures

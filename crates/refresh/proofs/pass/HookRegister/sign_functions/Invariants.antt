@@ -1,6 +1,5 @@
-use Rattle.std.proofs.Common.{Ok}
-use Rattle.refresh.specs.Appended.{Appended}
+use Rattle.refresh.specs.Appended.{Extends}
 use Rattle.refresh.proofs.pass.HookRegister.sign_functions.Given as goal
 
 abbrev pub invariant-loop-at : goal.invariant-loop-at
-invariant-loop-at l = Appended l.initial.text l.initial.end (Ok l.end) l.text
+invariant-loop-at l = Extends l.initial.text l.text

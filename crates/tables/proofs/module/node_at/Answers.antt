@@ -1,7 +1,0 @@
-use Rattle.std.proofs.Common.{sym}
-use Rattle.std.proofs.lemmas.List.{get_or_past}
-use Rattle.tables.specs.Modules.{void}
-use Rattle.tables.proofs.module.node_at.Goals as goal
-
-pub returns-else-at-nodes : goal.returns-else-at-nodes
-returns-else-at-nodes c = sym (get_or_past c.args.nodes.now c.args.at void c.if-at-nodes.false)
