@@ -92,12 +92,12 @@ fn cuts(rt: &HostRuntime, form: &[u8], source: &[u8], lent: &mut Lent) -> io::Re
 // Notes the lines of a case that are notes. Unlike the driver it tells each answer and goes on after a refusal.
 fn take_notes(
     rt: &HostRuntime,
-    head: &[u8],
+    notes: &[u8],
     source: &[u8],
     store: &mut Arrival,
     scratch: &mut [u8],
 ) -> io::Result<()> {
-    for line in Lines::of(head) {
+    for line in Lines::of(notes) {
         let Some((b"note", line)) = split_once(line, b' ') else {
             continue;
         };
@@ -136,7 +136,7 @@ pub fn run_case(
     };
     take_notes(
         rt,
-        case.head,
+        case.notes,
         source,
         &mut store,
         buffers.note.as_mut_slice(),

@@ -14,8 +14,8 @@ pub struct Case<'a> {
     pub source: &'a [u8],
     // a source of so many bytes instead
     pub fill: Option<usize>,
-    // the lines before the form, those of notes among them
-    pub head: &'a [u8],
+    // the lines that notes are read from
+    pub notes: &'a [u8],
     pub settings: Settings<'a>,
     pub room: usize,
     // load every shorter beginning instead
@@ -50,14 +50,14 @@ fn settings_of<'a>(line: &'a [u8]) -> Settings<'a> {
 }
 
 impl<'a> Case<'a> {
-    // The case of a head, of which no line was read yet, and a form.
-    fn of(head: &'a [u8], form: &'a [u8]) -> Case<'a> {
+    // The case of the lines of notes and a form; of its head no line was read yet.
+    fn of(notes: &'a [u8], form: &'a [u8]) -> Case<'a> {
         Case {
             name: b"",
             nodes: 64,
             source: b"",
             fill: None,
-            head,
+            notes,
             settings: Settings::default(),
             room: 65536,
             cuts: false,
@@ -137,12 +137,54 @@ impl<'a> Iterator for Cases<'a> {
             return None;
         }
         let (lines, rest) = split_at_line(self.rest, b"end");
+        let ended = lines.len() < self.rest.len();
         self.rest = rest;
         let (head, form) = split_at_line(lines, b"form");
-        let mut case = Case::of(head, form);
+        let formed = head.len() < lines.len();
+        // without `end`: notes without a `form` behind them are not read, and a form cut inside its last line is none
+        let notes = if ended || formed { head } else { b"" };
+        let form = if ended || lines.ends_with(b"\n") {
+            form
+        } else {
+            b""
+        };
+        let mut case = Case::of(notes, form);
         for line in Lines::of(head) {
             case = case.with_line(line);
         }
         Some(case)
+    }
+}
+
+#[cfg(test)]
+mod tests {
+    use super::Cases;
+
+    // The notes and the form of the first case.
+    fn parts(table: &[u8]) -> (&[u8], &[u8]) {
+        Cases::of(table)
+            .next()
+            .map_or((b"", b""), |case| (case.notes, case.form))
+    }
+
+    #[test]
+    fn table_stops_inside_a_case(rt: HostRuntime) {
+        let lines: &[u8] = b"case a\nnote 0 1 \"\"\n";
+        let none: &[u8] = b"";
+        let form: &[u8] = b"(module 0 0)\n";
+        let table = b"case a\nnote 0 1 \"\"\nform\n(module 0 0)\nend\n";
+        assert_eq!(rt; parts(table), (lines, form));
+        // before `end`, after a whole line
+        assert_eq!(rt;
+            parts(b"case a\nnote 0 1 \"\"\nform\n(module 0 0)\n"),
+            (lines, form)
+        );
+        // inside a line of the form
+        assert_eq!(rt;
+            parts(b"case a\nnote 0 1 \"\"\nform\n(module 0 0)"),
+            (lines, none)
+        );
+        // before `form`
+        assert_eq!(rt; parts(lines), (none, none));
     }
 }

@@ -8,8 +8,8 @@ pub(crate) fn contains(text: &[u8], needle: &[u8]) -> bool
     // Searches are loops with labels, left from inside at a match; places are counted, since `windows` would make the empty needle a case apart.
     let mut found = false;
     'places: for at in 0..(text.len() + 1).saturating_sub(needle.len()) {
-        'bytes: for (a, b) in text[at..].iter().zip(needle) {
-            if a != b {
+        'bytes: for (k, b) in needle.iter().enumerate() {
+            if text[at + k] != *b {
                 continue 'places;
             }
         }

@@ -89,6 +89,10 @@ pub fn instrument_in_tables(
 ) -> Result<Done, Stop>
     ensures { IfOk result (λ d. d.printed ≤ length out.old) }
 {
+    // before any table is made
+    if n > LARGEST {
+        return Err(Stop::Refused(Call::Load, Fault::TooLarge));
+    }
     let mut tables = Tables::<LARGEST>::new();
     let mut lent = tables
         .lend(n)

@@ -2,3 +2,4 @@ pub mod Wanted
 pub mod Sound
 pub mod Complete
 pub mod Endings
+pub mod Runs

@@ -4,44 +4,42 @@ ghost use Rattle.grammar.specs.Words.{word_of, text_of, kind_of, variables_of};
 
 use tables::{Kind, Word};
 
-// The kinds that a text to be loaded may have, those that come often first.
-const KINDS: &[Kind] = &[
-    Kind::Id,
-    Kind::Call,
-    Kind::Member,
-    Kind::Prop,
-    Kind::Lit,
-    Kind::Expr,
-    Kind::Decl,
-    Kind::Var,
-    Kind::Block,
-    Kind::Func,
-    Kind::Arrow,
-    Kind::Jsx,
-    Kind::Attr,
-    Kind::Return,
-    Kind::Fn,
-    Kind::Op,
-    Kind::Assign,
-    Kind::Array,
-    Kind::If,
-    Kind::Pat,
-    Kind::Dflt,
-    Kind::Import,
-    Kind::Export,
-    Kind::Deffn,
-    Kind::Defexpr,
-    Kind::Tagged,
-    Kind::Kwimport,
-    Kind::Module,
-];
-
-// The kind that a word names, for the kinds that a text to be loaded may have.
+// The kind that a word names, for the kinds that a text to be loaded may have. Those that come often stand first.
 #[tactic(auto, unfolding(crate::specs::Words::kind_of))]
 pub fn kind_of(run: &[u8]) -> Option<Kind>
     ensures { result ≡ kind_of run.now }
 {
-    KINDS.iter().copied().find(|kind| run == kind_word(*kind))
+    match run {
+        b"id" => Some(Kind::Id),
+        b"call" => Some(Kind::Call),
+        b"member" => Some(Kind::Member),
+        b"prop" => Some(Kind::Prop),
+        b"lit" => Some(Kind::Lit),
+        b"expr" => Some(Kind::Expr),
+        b"decl" => Some(Kind::Decl),
+        b"var" => Some(Kind::Var),
+        b"block" => Some(Kind::Block),
+        b"func" => Some(Kind::Func),
+        b"arrow" => Some(Kind::Arrow),
+        b"jsx" => Some(Kind::Jsx),
+        b"attr" => Some(Kind::Attr),
+        b"return" => Some(Kind::Return),
+        b"fn" => Some(Kind::Fn),
+        b"op" => Some(Kind::Op),
+        b"assign" => Some(Kind::Assign),
+        b"array" => Some(Kind::Array),
+        b"if" => Some(Kind::If),
+        b"pat" => Some(Kind::Pat),
+        b"dflt" => Some(Kind::Dflt),
+        b"import" => Some(Kind::Import),
+        b"export" => Some(Kind::Export),
+        b"deffn" => Some(Kind::Deffn),
+        b"defexpr" => Some(Kind::Defexpr),
+        b"tagged" => Some(Kind::Tagged),
+        b"kwimport" => Some(Kind::Kwimport),
+        b"module" => Some(Kind::Module),
+        _ => None,
+    }
 }
 
 // The word that a `var` has.

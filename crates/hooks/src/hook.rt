@@ -162,6 +162,16 @@ impl HookCollector<'_, '_, '_, '_, '_, '_, '_> {
         }
     }
 
+    // Lists hooks once more, as many as there is room for; refuses where that is not all of them.
+    fn repeat(&mut self, from: usize, count: usize) -> Result<(), Fault> {
+        let free = self.hooks.room().saturating_sub(self.hooks.len());
+        self.hooks.extend_from_within(from, count.min(free))?;
+        if count > free {
+            return Err(Fault::TooLarge);
+        }
+        Ok(())
+    }
+
     // A `var` takes its declarators in turn: each that is no hook call has the whole statement searched. Another search would find what the first
     // found, so that is listed once more.
     fn declarators(&mut self, at: usize) -> Result<(), Fault> {
@@ -170,7 +180,7 @@ impl HookCollector<'_, '_, '_, '_, '_, '_, '_> {
         for decl in m.parts(at) {
             match (declared_hook(&m, decl), searched) {
                 (Some(hook), _) => self.hooks.push(hook)?,
-                (None, Some((from, found))) => self.hooks.extend_from_within(from, found)?,
+                (None, Some((from, found))) => self.repeat(from, found)?,
                 (None, None) => {
                     let from = self.hooks.len();
                     self.search(at)?;

@@ -44,6 +44,6 @@ impl Frame {
     // What a stack holds where nothing is open.
     pub const NONE: Frame = Frame {
         at: 0,
-        later: Rest::Done,
+        later: Rest::Top,
     };
 }

@@ -30,11 +30,11 @@ pub(crate) struct Loaded<'n, 's> {
 }
 
 impl<'n, 's> Loaded<'n, 's> {
-    // The module with the texts so far.
+    // The module with the text table, in use or not: the sizes of a run need not be those of the module that stands there.
     pub(crate) fn module<'t>(&self, text: &'t List<u8>) -> Module<'n, 't, 's> {
         Module {
             nodes: self.nodes,
-            text: text.as_slice(),
+            text: text.memory(),
             source: self.source,
         }
     }

@@ -8,6 +8,10 @@ use Rattle.tables.specs.declared.list.Full.{Full}
 abbrev pub contents : {X : Type 0} → Bounded X → List X
 contents l = take l.len l.items.now
 
+-- all that its memory holds
+abbrev pub memory : {X : Type 0} → Bounded X → List X
+memory l = l.items.now
+
 -- how many elements it has room for
 abbrev pub room : {X : Type 0} → Bounded X → ℕ
 room l = length l.items.now

@@ -1,7 +1,7 @@
 // A list of bounded length over memory that the caller lends: one list for every element that can be copied.
 ghost use Rattle.std.specs.Prelude.{◌≡◌, ◌-◌, [], ◌∷◌, ◌++◌, length, take, drop, if◌then◌else◌, slice_set};
 ghost use Rattle.std.specs.List.{slice_get};
-ghost use Rattle.tables.specs.Lists.{contents, room, takes, takes_more, repeats, answer, answer_to, last, SameMemory};
+ghost use Rattle.tables.specs.Lists.{contents, memory, room, takes, takes_more, repeats, answer, answer_to, last, SameMemory};
 
 // The refusal of a list that is full. A type of its own, since under `?` it becomes another refusal than that of a full store of notes.
 #[derive(Clone, Copy, Debug, PartialEq, Eq)]
@@ -45,6 +45,13 @@ impl<'a, T: Copy> List<'a, T> {
         ensures { result ≡ room self.now }
     {
         self.items.len()
+    }
+
+    // All that the memory holds, behind the elements too.
+    pub fn memory(&self) -> &[T]
+        ensures { result.now ≡ memory self.now }
+    {
+        &*self.items
     }
 
     pub fn as_slice(&self) -> &[T]
