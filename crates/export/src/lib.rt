@@ -11,6 +11,12 @@ use input::{Settings, read_settings};
 // Longer than the texts of all notes that a store takes: a fixed array, as there is no heap.
 const LINE: usize = 65536;
 
+// A function of its own, so that a call with bad options does not pay for the array.
+fn instrument_files(files: &Files, n: usize, out: &mut [u8]) -> u64 {
+    let mut scratch = [0u8; LINE];
+    answer(instrument_in_tables(files, n, &mut scratch, out))
+}
+
 // Instruments a module over tables for `n` nodes. Notes and options are the texts of their files. A bad line of options has
 // number 0 and the line for its place.
 #[unsafe(no_mangle)]
@@ -30,8 +36,7 @@ pub extern "C" fn hufalimpy_instrument(
                 notes,
                 settings,
             };
-            let mut scratch = [0u8; LINE];
-            answer(instrument_in_tables(&files, n, &mut scratch, out))
+            instrument_files(&files, n, out)
         }
         Err(line) => bad_line(line),
     }
